@@ -21,15 +21,15 @@ module _ (O : RattleType) (g : Object.Ghosts O.Denot) (crossing : IsSend O) wher
   pub hand_send : IsSend (Hand.the_row O g)
   hand_send =
       let T = HandInside.the_type O g in
-      let takes = lane_take.the_field_send (Errand.the_row O) _ (errand_send O g crossing) in
-      let puts = lane_put.the_field_send (Return.the_row O) _ (back.the_send O crossing) in
+      let takes = lane_take.the_field_send (Errand.the_row O) (errand_send O g crossing) in
+      let puts = lane_put.the_field_send (Return.the_row O) (back.the_send O crossing) in
       view_send (HandInside.the_row O g) _ _ _ _ (recorded_send (Struct (shape T)) T.D T.to T.to_one (struct_send (shape T)
-      (worker_send O g crossing, (takes, (puts, (search sendable, (search sendable, tt)))))))
+      (worker_send O g crossing, (takes, (puts, (search (crosses, sendable) depth 60, tt))))))
 
   pub desk_send : IsSend (Desk.the_row O g)
   desk_send =
       let T = DeskInside.the_type O g in
-      let puts = lane_put.the_field_send (Errand.the_row O) _ (errand_send O g crossing) in
-      let takes = lane_take.the_field_send (Return.the_row O) _ (back.the_send O crossing) in
+      let puts = lane_put.the_field_send (Errand.the_row O) (errand_send O g crossing) in
+      let takes = lane_take.the_field_send (Return.the_row O) (back.the_send O crossing) in
       view_send (DeskInside.the_row O g) _ _ _ _ (recorded_send (Struct (shape T)) T.D T.to T.to_one (struct_send (shape T)
       (dispatcher_send O g crossing, (puts, (takes, (search sendable, (search (job_send, crosses, sendable) depth 60, (search sendable, tt))))))))

@@ -11,7 +11,7 @@ mod stage;
 mod worker;
 
 pub use calls::JobCalls;
-pub use dispatcher::{Dispatcher, Handing};
+pub use dispatcher::{Dispatcher, Handing, Remaining};
 pub use errand::{Errand, Return};
 pub use gate::{Gate, OpenGate};
 pub use nob_keeper::{KeeperError, Seat};
