@@ -43,3 +43,7 @@ module _ {O : Type 0} where
   -- what was given and isn't back is still counted as away
   pub counted : (given given' : List (Errand O)) (errand : Errand O) (away back : ℕ) → given' ≡ given ++ errand ∷ [] → length given ≤ away + back → length given' ≤ away + 1 + back
   counted given given' errand away back more few = omega (arith, few, ap length more, length_push given errand)
+
+  -- nothing is handed on
+  pub same_handed : (d : Dispatching O) (handing other : Handing O) (handed : List Job) → handing ≡ other → IsTied (with_handed (Ok handing) handed) d → IsTied (with_handed (Ok other) handed) d
+  same_handed d handing other handed is tied = subst (λ (h : Handing O). IsTied (with_handed (Ok h) handed) d) is tied

@@ -48,6 +48,11 @@ abbrev pub gives_up : Option KeeperError → Bool
 gives_up None = false
 gives_up (Some error) = true
 
+-- a hand gives up from a turn on that the keeper refused for another reason than want of memory, and for none else
+abbrev pub fault_after : Result Deed KeeperError → Option KeeperError → Option KeeperError
+fault_after (Ok deed) before = before
+fault_after (Err error) before = if is_memory error then before else Some error
+
 -- a hand, as contracts see it
 pub record Serving (O : Type 0) : Type 0 where
   -- the errands that it got, the first first
@@ -93,11 +98,6 @@ module _ {O : Type 0} where
   -- an errand was got: its job is the next, and the worker keeps it with its object
   abbrev pub Gets : (old new : Serving O) → Type 0
   Gets old new = (errand : Errand O) × (new ≡ record { taken = old.taken ++ errand ∷ []; given = old.given; worker = with_errand errand old.worker; fault = old.fault; is_alone = old.is_alone })
-
-  -- a hand gives up from a turn on that the keeper refused for another reason than want of memory, and for none else
-  abbrev pub fault_after : Result Deed KeeperError → Option KeeperError → Option KeeperError
-  fault_after (Ok deed) before = before
-  fault_after (Err error) before = if is_memory error then before else Some error
 
   -- a hand whose job has ended keeps none, and so does one that has nothing to do, or has just begun to give up
   abbrev pub IsFreeAfter : Result Deed KeeperError → Serving O → Type 0

@@ -54,7 +54,6 @@ impl<O: Object> Model for Hand<O> {
 impl<O: Object> Hand<O> {
     /// A worker over a seat, with its ends. The caller's condition: the seat and the ends are
     /// unused.
-    #[tactic(auto, using(crate::proofs::Follows::nothing))]
     pub fn new(seat: Seat, errands: LaneTake<Errand<O>>, returns: LanePut<Return<O>>) -> Hand<O>
         requires seat { seat ≡ [] }
         requires errands { serving.taken errands ≡ [] }
@@ -154,7 +153,6 @@ impl<O: Object> Hand<O> {
     }
 
     // Gives up the job that it keeps, if it keeps one, and from now on each that it gets.
-    #[tactic(auto, using(crate::proofs::Follows::missed))]
     fn give_up<R: Wait>(&mut self, rt: &R, error: KeeperError)
         requires { serving.is_memory error ≡ false }
         ensures fault { self.new.fault ≡ Some error }
@@ -220,8 +218,7 @@ fn send_back<O: Object, R: Wait>(rt: &R, returns: &mut LanePut<Return<O>>, back:
     if returns.has_heard_gone() {
         return;
     }
-    match returns.give_as(rt, back) {
-        Ok(()) => {}
-        Err(_) => {}
-    }
+    let Err(_) = returns.give_as(rt, back) else {
+        return;
+    };
 }

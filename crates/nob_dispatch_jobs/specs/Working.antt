@@ -9,7 +9,7 @@ use Rattle.nob_dispatch_jobs.specs.declared.stage.Keeping.{Keeping}
 use Rattle.nob_dispatch_jobs.specs.declared.stage.Keeping.TheVariants as keeps
 use Rattle.nob_dispatch_jobs.specs.declared.worker.Progress.{Progress}
 use Rattle.nob_dispatch_jobs.specs.declared.worker.Progress.TheVariants as progresses
-use Rattle.nob_dispatch_jobs.specs.Ends.{ended, target_in, with_job}
+use Rattle.nob_dispatch_jobs.specs.Ends.{ended, number_in, target_in, with_job}
 
 -- a worker, as contracts see it: its receipts, the number of the job that it keeps, and that job while it has its object
 pub record Working : Type 0 where
@@ -48,7 +48,7 @@ module _ {O : Type 0} where
 
   -- an object comes back with the number of the job that the worker has it for, and with its index
   abbrev pub ComesFrom : Return O → Working → Type 0
-  ComesFrom back worker = (worker.job ≡ Some back.job) × (target_in worker.running ≡ Some back.index)
+  ComesFrom back worker = (worker.job ≡ Some back.job) × (number_in worker.running ≡ Some back.job) × (target_in worker.running ≡ Some back.index)
 
   -- a turn gives back the object that the worker had, with its job's number and index, or the worker still has what it had, of that job
   abbrev pub GivesBack : Result (Progress O) KeeperError → Working → Working → Type 0

@@ -8,6 +8,7 @@ mod errand;
 mod gate;
 mod shelf;
 mod stage;
+mod telling;
 mod worker;
 
 pub use calls::JobCalls;

@@ -1,13 +1,14 @@
 //! Who carries jobs out.
 
-ghost use Rattle.std.specs.Prelude.{◌≡◌, ◌≢◌, ◌∷◌, [], Some, None, OnOk, OnErr, IfErr, IfSome, MatchOption};
+ghost use Rattle.std.specs.Prelude.{◌≡◌, ◌≢◌, ◌∷◌, [], Some, None, true, OnOk, OnErr, IfErr, IfSome, MatchOption};
 ghost use Rattle.nob_dispatch_jobs.specs.Ends.{ended};
 ghost use Rattle.nob_dispatch_jobs.specs.Working as working;
 
 use crate::calls::JobCalls;
 use crate::errand::{Errand, Return};
 use crate::gate::Gate;
-use crate::stage::{AfterFinish, Finish, Keeping, Stage, done_of, is_not_ready};
+use crate::stage::{AfterFinish, Finish, Keeping, Stage};
+use crate::telling::{done_of, is_not_ready, stage_after};
 use nob_dispatch_objects::Object;
 use nob_ids::JobNo;
 use nob_keeper::{KeeperError, Seat};
@@ -69,7 +70,8 @@ impl<O: Object> Worker<O> {
 
     /// Whether it keeps no job.
     pub fn is_free(&self) -> bool
-        ensures { result ≡ working.is_free self.now }
+        ensures free { result ≡ working.is_free self.now }
+        ensures idle { result ≡ true → self.now.running ≡ None }
     {
         match &self.keeping {
             Keeping::Nothing => true,
@@ -80,7 +82,7 @@ impl<O: Object> Worker<O> {
     /// Takes an errand, if it keeps no job: else the errand comes back.
     pub fn take(&mut self, errand: Errand<O>) -> Result<(), Errand<O>>
         ensures took { OnOk result (self.new ≡ working.with_errand errand self.old) }
-        ensures free { OnOk result (self.old.job ≡ None) }
+        ensures free { OnOk result ((self.old.job ≡ None) × (self.old.running ≡ None)) }
         ensures got { OnOk result (working.got self.new
             ≡ errand.job.job ∷ working.got self.old) }
         ensures back { IfErr result (λ back. (back ≡ errand) × (self.old.job ≢ None)) }
@@ -210,7 +212,7 @@ impl<O: Object> Worker<O> {
     /// comes back, where it hasn't yet.
     pub fn give_up(&mut self) -> Option<Return<O>>
         ensures freed { self.new ≡ working.freed self.old }
-        ensures back { MatchOption result (working.held self.old ≡ None)
+        ensures back { MatchOption result (self.old.running ≡ None)
             (λ back. working.ComesFrom back self.old) }
     {
         let keeping = std::mem::replace(&mut self.keeping, Keeping::Nothing);
@@ -262,7 +264,7 @@ fn advance<O: Object, R: Wait, C: JobCalls, G: Gate>(
         }
         Stage::Ask(request) => {
             keeper.call(rt, seat, &request.event)?;
-            *stage = Stage::after(seat);
+            *stage = stage_after(seat);
             Ok(true)
         }
         Stage::Await(call) => {

@@ -1,8 +1,9 @@
 use Rattle.std.proofs.Common.{rules, arith, Some, inl, inr, length, ap, ◌∙◌}
+use Rattle.nob_dispatch_jobs.specs.declared.dispatcher.Handing.TheVariants as handings
 use Rattle.nob_dispatch_jobs.specs.declared.errand.Errand.{Errand}
 use Rattle.nob_dispatch.specs.Assigning.{Assigning}
 use Rattle.nob_dispatch.specs.Serving.{given, taken}
-use Rattle.nob_dispatch.proofs.Givings.{given_more, given_none, handed_over, counted}
+use Rattle.nob_dispatch.proofs.Givings.{given_more, given_none, handed_over, same_handed, counted}
 use Rattle.nob_dispatch.proofs.desk.Desk.hand_on.Goals as goal
 
 pub invariant_of-self-in_default : goal.invariant_of-self-in_default
@@ -23,3 +24,18 @@ pub returns-in_default-clause-given : goal.returns-in_default-clause-given
 returns-in_default-clause-given g c =
     let over = handed_over c.in_ok-errand.field-0 c.in-Errand.errand c.self.inside.dispatcher.shelf c.step.new.dispatcher.shelf c.in-Errand.is c.in_ok-errand.ensures.object in
     rw (← c.self.view_is) (c.in-Errand.errand, c.in_default.ensures.answer, over.0, over.1)
+
+pub invariant_of-self : goal.invariant_of-self
+invariant_of-self g c = (c.in_err-errand.ensures.tied _ c.self.invariant.0, c.self.invariant.1, c.self.invariant.2, c.self.invariant.3)
+
+pub invariant_of-self-in-Did : goal.invariant_of-self-in-Did
+invariant_of-self-in-Did g c = (same_handed c.step.new.dispatcher c.in_ok-errand.field-0 handings.Did _ c.in-Did.is (c.in_ok-errand.ensures.tied _ c.self.invariant.0), c.self.invariant.1, c.self.invariant.2, c.self.invariant.3)
+
+pub invariant_of-self-in-Later : goal.invariant_of-self-in-Later
+invariant_of-self-in-Later g c = (same_handed c.step.new.dispatcher c.in_ok-errand.field-0 handings.Later _ c.in-Later.is (c.in_ok-errand.ensures.tied _ c.self.invariant.0), c.self.invariant.1, c.self.invariant.2, c.self.invariant.3)
+
+pub invariant_of-self-then-is_at_rest : goal.invariant_of-self-then-is_at_rest
+invariant_of-self-then-is_at_rest g c = (same_handed c.step.new.dispatcher c.in_ok-errand.field-0 handings.Idle _ c.in-Idle.is (c.in_ok-errand.ensures.tied _ c.self.invariant.0), c.self.invariant.1, c.self.invariant.2, c.self.invariant.3)
+
+pub invariant_of-self-in-Idle-2 : goal.invariant_of-self-in-Idle-2
+invariant_of-self-in-Idle-2 g c = (same_handed c.step.new.dispatcher c.in_ok-errand.field-0 handings.Idle _ c.in-Idle-2.is (c.in_ok-errand.ensures.tied _ c.self.invariant.0), c.self.invariant.1, c.self.invariant.2, c.self.invariant.3)
