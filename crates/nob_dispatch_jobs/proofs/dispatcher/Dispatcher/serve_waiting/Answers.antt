@@ -13,10 +13,10 @@ returns-in_default-serve-clause-tied g c =
     let old = c.self.inside.waiting.items in let new = c.take_waiting.new.waiting.items in
     let none = ap (λ (d : Dispatching _). d.ending) c.self.view_is ∙ c.requires.ending in
     rw (← c.self.view_is) (λ handed tied.
-      let once = once_behind due old new c.in-Some.job c.in-Some.ensures.once in
-      let before = subst (λ (e : Option ℕ). Parts (claimed seat) handed (with_job due old) (with_job e (ended seat))) none tied in
-      let now = ending_parts (claimed seat) handed (with_job due old) (with_job due new) (ended seat) c.in-Some.job once before in
-      subst (λ (e : Option ℕ). Parts (claimed seat) handed (with_job due new) (with_job e (ended seat))) (sym c.in_default-serve.ensures.ending) now)
+    let once = once_behind due old new c.in-Some.job c.in-Some.ensures.once in
+    let before = subst (λ (e : Option ℕ). Parts (claimed seat) handed (with_job due old) (with_job e (ended seat))) none tied in
+    let now = ending_parts (claimed seat) handed (with_job due old) (with_job due new) (ended seat) c.in-Some.job once before in
+    subst (λ (e : Option ℕ). Parts (claimed seat) handed (with_job due new) (with_job e (ended seat))) (sym c.in_default-serve.ensures.ending) now)
 
 pub returns-clause-tied : goal.returns-clause-tied
 returns-clause-tied g c =
@@ -25,5 +25,5 @@ returns-clause-tied g c =
     let job = c.in-Some-serve.errand.job in
     let taken = subst (λ (j : Job). (weight : Job → ℕ) → weigh weight old ≡ weigh weight (j ∷ new)) (sym c.in-Some-serve.ensures.served.0) c.in-Some.ensures.once in
     rw (← c.self.view_is) (λ handed tied.
-      let now = handed_parts (claimed seat) handed (with_job due old) (with_job due new) (with_job (job_in c.self.inside.ending) (ended seat)) job (once_behind due old new job taken) tied in
-      subst (λ (e : Option Finish). Parts (claimed seat) (job ∷ handed) (with_job due new) (with_job (job_in e) (ended seat))) (sym c.in-Some-serve.ensures.ending) now)
+    let now = handed_parts (claimed seat) handed (with_job due old) (with_job due new) (with_job (job_in c.self.inside.ending) (ended seat)) job (once_behind due old new job taken) tied in
+    subst (λ (e : Option Finish). Parts (claimed seat) (job ∷ handed) (with_job due new) (with_job (job_in e) (ended seat))) (sym c.in-Some-serve.ensures.ending) now)
