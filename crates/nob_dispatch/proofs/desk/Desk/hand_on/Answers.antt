@@ -1,4 +1,4 @@
-use Rattle.std.proofs.Common.{rules, arith, Some, inl, inr, length, ap, ◌∙◌}
+use Rattle.std.proofs.Common.{rules, Some, inl, inr, length, ap, ◌∙◌}
 use Rattle.nob_dispatch_jobs.specs.declared.dispatcher.Handing.TheVariants as handings
 use Rattle.nob_dispatch_jobs.specs.declared.errand.Errand.{Errand}
 use Rattle.nob_dispatch.specs.Assigning.{Assigning}

@@ -1,4 +1,4 @@
-use Rattle.std.proofs.Common.{◌≡◌, ℕ, List, ◌∷◌, Option, ap, sym, subst, ◌∙◌}
+use Rattle.std.proofs.Common.{◌≡◌, ℕ, ◌∷◌, Option, ap, sym, subst, ◌∙◌}
 use Rattle.nob_model_types.specs.declared.answer.Job.{Job}
 use Rattle.nob_dispatch_lanes.specs.Balance.{weigh}
 use Rattle.nob_dispatch_jobs.specs.declared.stage.Finish.{Finish}
