@@ -112,7 +112,7 @@ new_copied s n limits rep p k D right (Some item) is all = by (carries rep item)
     by true carried = (record { of_owner = λ own. eq-eqb (number p D) (number p D) refl; acted_on = λ present. (item, stands_new s n limits p k item D right is, carried) }, all)
     by false carried = all
 
-cleaned : {X : Type 0} (P : X → Type 0) (b : Bool) (xs : List X) → AllByRecursion P xs → AllByRecursion P (cond b [] xs)
+pub cleaned : {X : Type 0} (P : X → Type 0) (b : Bool) (xs : List X) → AllByRecursion P xs → AllByRecursion P (cond b [] xs)
 cleaned P true xs all = tt
 cleaned P false xs all = all
 
@@ -228,7 +228,7 @@ new_rests : (s n : ℕ) (rep : WireRep) (p k : ℕ) (D : List Deed) (found : Opt
 new_rests s n rep p k D None is carried = cc
 new_rests s n rep p k D (Some item) is carried = or_left (is_waiting p k (work s n (did.Act p k ∷ D)).waiting) _ (waits_new s n p k item D is (carried_some rep (counted_in item) carried))
 
-more_rest : (P : Source → Type 0) (b : Bool) (copy : Source) (cs : List Source) → (b ≡ true → P copy) → AllByRecursion P cs → AllByRecursion P (cond b (copy ∷ cs) cs)
+pub more_rest : (P : Source → Type 0) (b : Bool) (copy : Source) (cs : List Source) → (b ≡ true → P copy) → AllByRecursion P cs → AllByRecursion P (cond b (copy ∷ cs) cs)
 more_rest P true copy cs its all = (its refl, all)
 more_rest P false copy cs its all = all
 

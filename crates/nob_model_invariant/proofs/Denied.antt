@@ -1,5 +1,5 @@
 -- What an owner denied a client: all that it sent that client with a reference to the object is settled.
-use Rattle.std.proofs.Common.{◌≡◌, ℕ, ◌+◌, ◌≤◌, ◌&&◌, ◌||◌, not, Bool, true, false, cond, List, [], ◌∷◌, ◌++◌, length, refl, sym, ap, subst, ◌∙◌, arith}
+use Rattle.std.proofs.Common.{◌≡◌, ℕ, ◌+◌, ◌≤◌, ◌&&◌, ◌||◌, not, Bool, true, false, cond, List, [], ◌∷◌, ◌++◌, length, refl, sym, ap, subst, ◌∙◌, ◌⊎◌, inl, inr, arith}
 use Rattle.std.specs.Prelude.{◌==◌}
 use Rattle.std.specs.List.{AllByRecursion, list_any}
 use Rattle.std.proofs.lemmas.Bool.{eqb-true, eq-eqb, ne_eqb, and_parts, and_from, and_right, or_right, both_ways, not_from_false, true_from_ne_false}
@@ -22,7 +22,7 @@ use Rattle.nob_model_history.specs.Histories.{history_of}
 use Rattle.nob_model_history.specs.Ends.{items_to}
 use Rattle.nob_model_history.specs.Transit.{is_sent_to, next_sent, is_some_of, is_of_present, is_settle_of, is_settled, is_pinned, pins, sent}
 use Rattle.nob_model_history.proofs.Numbered.{items_sent_in, gifts_sent_now}
-use Rattle.nob_model_history.proofs.Sending.{new_items, sent_more}
+use Rattle.nob_model_history.proofs.Sending.{new_items, new_present, sent_more}
 use Rattle.nob_model_history.proofs.Turning.{same_ref}
 use Rattle.nob_model.specs.Right.{own_ref}
 use Rattle.nob_model.specs.Lists.{AreRightDeeds}
@@ -30,9 +30,13 @@ use Rattle.nob_model.proofs.Carrying.{all_filter}
 use Rattle.nob_model.proofs.Guarding.{GuardsItem, IsGuarded, AreGuarded, gifts_guarded, pinned_law}
 use Rattle.nob_model.proofs.Waiting.{act_open, all_weaker}
 use Rattle.nob_model_invariant.specs.Asking.{answer_in, answers_among, asks_among, items_among, has_no, dirties_in}
+use Rattle.nob_model_journal.specs.Journals.{acted_during}
+use Rattle.nob_model_invariant.specs.Settles.{settles_among, is_in}
 use Rattle.nob_model_holdings.proofs.Holdings.{pins_stand}
 use Rattle.nob_model_holdings.proofs.Lists.{all_append}
 use Rattle.nob_model_invariant.proofs.Owners.{gave_of, asked_of, are_answered}
+use Rattle.nob_model_invariant.proofs.BySession.{given_elsewhere, sent_stays, acted_is, acted_stays}
+use Rattle.nob_model_invariant.proofs.Bundles.{settled_in}
 
 -- what went to client c in the session in which space s is, with a reference to the object of an index, is settled
 abbrev pub IsSettledTo : (s c x : ℕ) → List Deed → SentItem → Type 0
@@ -148,3 +152,49 @@ pub denied_settled : (s n : ℕ) (limits : Limits) (c x : ℕ) (D : List Deed) �
 denied_settled s n limits c x [] right refuses = tt
 denied_settled s n limits c x (did.Act q k ∷ D) right refuses = act_deed s n limits c x q k D right (denied_settled s n limits c x D right.1) refuses (q == c) refl
 denied_settled s n limits c x (deed ∷ D) right refuses = other_deed s n limits c x deed D right refl (denied_settled s n limits c x D right.1) refuses
+
+-- ---- each session
+
+-- what went to client c in a session, with a reference to the object of an index, is settled by what was acted on in it
+abbrev pub IsSettledIn : (s c x k : ℕ) → List Deed → SentItem → Type 0
+IsSettledIn s c x k D one = is_sent_to c k one ≡ true → carries (own_ref s x) one.item ≡ true → is_in one.number (settles_among (items_among (acted_during c k D))) ≡ true
+
+settled_now : (s n : ℕ) (limits : Limits) (c x : ℕ) (D : List Deed) → AreRightDeeds s n limits D → has_no (gave_of s n c x D) ≡ true → AllByRecursion (IsSettledIn s c x (number c D) D) (sent (history_of s n D))
+settled_now s n limits c x D right refuses =
+    all_weaker (IsSettledTo s c x D) (IsSettledIn s c x (number c D) D)
+    (λ one its to carried. subst (λ pairs. is_in one.number (settles_among (items_among pairs)) ≡ true) (acted_is c D) (settled_in c one.number D (its to carried)))
+    (sent (history_of s n D)) (denied_settled s n limits c x D right refuses)
+
+-- what is sent in another session
+elsewhere : (s c x k : ℕ) (D E : List Deed) (more : List SentItem) → (number c D == k) ≡ false → AllByRecursion (λ (one : SentItem). is_of_present D one ≡ true) more → AllByRecursion (IsSettledIn s c x k E) more
+elsewhere s c x k D E more other all = all_weaker (λ (one : SentItem). is_of_present D one ≡ true) (IsSettledIn s c x k E) never more all
+  where
+    never : (one : SentItem) → is_of_present D one ≡ true → IsSettledIn s c x k E one
+    never one present to carried =
+        let parts = and_parts (one.to == c) (one.session == k) to in
+        let same : number c D ≡ k = ap (λ (p : ℕ). number p D) (sym (eqb-true one.to c parts.0)) ∙ sym (eqb-true one.session (number one.to D) present) ∙ eqb-true one.session k parts.1 in
+        absurd (both_ways (number c D == k) other (eq-eqb (number c D) k same))
+
+stays_settled : (s n : ℕ) (c x k : ℕ) (deed : Deed) (D : List Deed) → (number c (deed ∷ D) == k) ≡ false → AllByRecursion (IsSettledIn s c x k D) (sent (history_of s n D)) → AllByRecursion (IsSettledIn s c x k (deed ∷ D)) (sent (history_of s n (deed ∷ D)))
+stays_settled s n c x k deed D other before =
+    subst (AllByRecursion (IsSettledIn s c x k (deed ∷ D))) (sym (sent_more s n deed D))
+    (all_append (IsSettledIn s c x k (deed ∷ D)) (sent (history_of s n D)) (new_items D (sent (history_of s n D)) (gifts s n deed D (work s n D))) still
+    (by (given_elsewhere s n c k deed D other)))
+  where
+    still : AllByRecursion (IsSettledIn s c x k (deed ∷ D)) (sent (history_of s n D))
+    still = all_weaker (IsSettledIn s c x k D) (IsSettledIn s c x k (deed ∷ D)) (λ one its to carried. subst (λ pairs. is_in one.number (settles_among (items_among pairs)) ≡ true) (sym (acted_stays c k deed D other)) (its to carried)) (sent (history_of s n D)) before
+
+    by : ((number c D == k) ≡ false) ⊎ (gifts s n deed D (work s n D) ≡ []) → AllByRecursion (IsSettledIn s c x k (deed ∷ D)) (new_items D (sent (history_of s n D)) (gifts s n deed D (work s n D)))
+    by (inl there) = elsewhere s c x k D (deed ∷ D) _ there (new_present D (gifts s n deed D (work s n D)) (sent (history_of s n D)))
+    by (inr none) = subst (λ more. AllByRecursion (IsSettledIn s c x k (deed ∷ D)) (new_items D (sent (history_of s n D)) more)) (sym none) tt
+
+-- in every list of right deeds all that went to a client in a session with a reference to what it was denied in it is settled
+pub denied_in : (s n : ℕ) (limits : Limits) (c x k : ℕ) (D : List Deed) → AreRightDeeds s n limits D → has_no (answers_among x (items_sent_in c k (sent (history_of s n D)))) ≡ true → AllByRecursion (IsSettledIn s c x k D) (sent (history_of s n D))
+denied_in s n limits c x k [] right refuses = tt
+denied_in s n limits c x k (deed ∷ D) right refuses = by (number c (deed ∷ D) == k) refl (denied_in s n limits c x k D right.1) refuses
+  where
+    by : (b : Bool) → (number c (deed ∷ D) == k) ≡ b → (has_no (answers_among x (items_sent_in c k (sent (history_of s n D)))) ≡ true → AllByRecursion (IsSettledIn s c x k D) (sent (history_of s n D))) → has_no (answers_among x (items_sent_in c k (sent (history_of s n (deed ∷ D))))) ≡ true → AllByRecursion (IsSettledIn s c x k (deed ∷ D)) (sent (history_of s n (deed ∷ D)))
+    by true is before refuses =
+        subst (λ (m : ℕ). has_no (answers_among x (items_sent_in c m (sent (history_of s n (deed ∷ D))))) ≡ true → AllByRecursion (IsSettledIn s c x m (deed ∷ D)) (sent (history_of s n (deed ∷ D)))) (eqb-true (number c (deed ∷ D)) k is)
+        (settled_now s n limits c x (deed ∷ D) right) refuses
+    by false other before refuses = stays_settled s n c x k deed D other (before (ap (λ more. has_no (answers_among x more)) (sym (sent_stays s n c k deed D other)) ∙ refuses))

@@ -38,6 +38,7 @@ use Rattle.nob_model.proofs.Accepted.{act_tells}
 use Rattle.nob_model.proofs.Premises.{in_turn, item_acted, no_fault}
 use Rattle.nob_model.proofs.Carrying.{all_filter}
 use Rattle.nob_model_invariant.specs.Asking.{ask_in, answer_in, asks_among, answers_among, items_among, dirties_in, last_or, word_of, last_word, has_no, OkFirst, AnsweredInTurn}
+use Rattle.nob_model_invariant.proofs.BySession.{sent_stays}
 use Rattle.nob_model_invariant.proofs.Bools.{dirties_push, last_push, word_push}
 
 -- what space s answered a client for an index in the session in which it is, and what the client asked
@@ -382,3 +383,24 @@ are_answered s n limits c x (did.Act p k ∷ D) right = act_answered s n limits 
 are_answered s n limits c x (did.Export rep ∷ D) right = other_deed s n c x (did.Export rep) D refl refl refl (exported_later s x rep D) (λ gone. gone) (are_answered s n limits c x D right.1)
 are_answered s n limits c x (did.Withdraw index ∷ D) right = other_deed s n c x (did.Withdraw index) D refl refl refl (λ known. known) (λ gone. or_right (index == x) (is_withdrawn x D) gone) (are_answered s n limits c x D right.1)
 are_answered s n limits c x (deed ∷ D) right = other_deed s n c x deed D refl refl refl (λ known. known) (λ gone. gone) (are_answered s n limits c x D right.1)
+
+-- ---- each session
+
+exported_stays : (s x : ℕ) (deed : Deed) (D : List Deed) → is_exported s x D ≡ true → is_exported s x (deed ∷ D) ≡ true
+exported_stays s x (did.Export rep) D known = exported_later s x rep D known
+exported_stays s x deed D known = known
+
+withdrawn_stays : (x : ℕ) (deed : Deed) (D : List Deed) → is_withdrawn x D ≡ true → is_withdrawn x (deed ∷ D) ≡ true
+withdrawn_stays x (did.Withdraw index) D gone = or_right (index == x) (is_withdrawn x D) gone
+withdrawn_stays x deed D gone = gone
+
+-- in every list of right deeds what was denied in a session was exported and withdrawn
+pub gone_in : (s n : ℕ) (limits : Limits) (c x k : ℕ) (D : List Deed) → AreRightDeeds s n limits D → has_no (answers_among x (items_sent_in c k (sent (history_of s n D)))) ≡ true → (is_exported s x D ≡ true) × (is_withdrawn x D ≡ true)
+gone_in s n limits c x k [] right refuses = cc
+gone_in s n limits c x k (deed ∷ D) right refuses = by (number c (deed ∷ D) == k) refl (gone_in s n limits c x k D right.1) refuses
+  where
+    by : (b : Bool) → (number c (deed ∷ D) == k) ≡ b → (has_no (answers_among x (items_sent_in c k (sent (history_of s n D)))) ≡ true → (is_exported s x D ≡ true) × (is_withdrawn x D ≡ true)) → has_no (answers_among x (items_sent_in c k (sent (history_of s n (deed ∷ D))))) ≡ true → (is_exported s x (deed ∷ D) ≡ true) × (is_withdrawn x (deed ∷ D) ≡ true)
+    by true is before refuses = (are_answered s n limits c x (deed ∷ D) right).denied (subst (λ (m : ℕ). has_no (answers_among x (items_sent_in c m (sent (history_of s n (deed ∷ D))))) ≡ true) (sym (eqb-true (number c (deed ∷ D)) k is)) refuses)
+    by false other before refuses =
+        let gone = before (ap (λ more. has_no (answers_among x more)) (sym (sent_stays s n c k deed D other)) ∙ refuses) in
+        (exported_stays s x deed D gone.0, withdrawn_stays x deed D gone.1)
