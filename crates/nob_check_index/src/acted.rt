@@ -67,7 +67,10 @@ pub fn sessions_after(
     ensures { IfOk result (λ after. after ≡ words.sessions_after deed.now tables.now sessions) }
 {
     match deed {
-        Deed::Act(from, _) => sessions.with_one(*from, tables.numbers.number(*from)),
+        Deed::Act(from, _) => {
+            let more = sessions.with_one(*from, tables.numbers.number(*from))?;
+            Ok(more)
+        }
         _ => Ok(sessions),
     }
 }

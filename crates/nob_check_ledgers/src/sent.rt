@@ -431,7 +431,8 @@ impl SentItems {
             session,
             number: count,
         };
-        let standings = standings.with_standing(name, sent_items.len())?;
+        let place = sent_items.as_slice().len();
+        let standings = standings.with_standing(name, place)?;
         let item = next_item(alloc, past, gift, count)?;
         sent_items.push(item)?;
         Ok(SentItems {

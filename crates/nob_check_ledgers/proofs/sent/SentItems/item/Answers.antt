@@ -10,7 +10,7 @@ returns c =
     let items : List SentItem = c.self.inside.sent_items.items in
     let test = is_item c.args.to c.args.session c.args.number in
     c.item_at.ensures
-    ∙ ap (λ (xs : List SentItem). option_and_then (slice_get xs) c.place-place.result) c.as_slice.ensures
+    ∙ ap (λ (xs : List SentItem). option_and_then (slice_get xs) c.place-place.result) c.as_slice.ensures.value
     ∙ ap (option_and_then (slice_get items)) (c.place-place.ensures ∙ c.self.invariant.stand c.args.to c.args.session c.args.number)
     ∙ find_first test items
     ∙ ap (find test) c.self.view_is
