@@ -85,8 +85,8 @@ settled_stays : (p k : ℕ) (deed : Deed) (D : List Deed) → is_settled p k D �
 settled_stays p k (did.Act q j) D is = settled_later (q == p && is_settle_of k (item_at q j D)) (is_settled p k D) is
 settled_stays p k deed D is = is
 
-still_settled : (s c x : ℕ) (deed : Deed) (D : List Deed) (all : List SentItem) → AllByRecursion (IsSettledTo s c x D) all → AllByRecursion (IsSettledTo s c x (deed ∷ D)) all
-still_settled s c x deed D all are = all_weaker (IsSettledTo s c x D) (IsSettledTo s c x (deed ∷ D)) (λ one its to carried. settled_stays c one.number deed D (its to carried)) all are
+still_settled : (s c x : ℕ) (deed : Deed) (D : List Deed) → number c (deed ∷ D) ≡ number c D → (all : List SentItem) → AllByRecursion (IsSettledTo s c x D) all → AllByRecursion (IsSettledTo s c x (deed ∷ D)) all
+still_settled s c x deed D here all are = all_weaker (IsSettledTo s c x D) (IsSettledTo s c x (deed ∷ D)) (λ one its to carried. settled_stays c one.number deed D (its (ap (λ (k : ℕ). is_sent_to c k one) (sym here) ∙ to) carried)) all are
 
 -- ---- what is sent now
 
@@ -98,11 +98,11 @@ new_settled s c x D E (gift ∷ more) before dead are = (λ to carried. absurd (
     eq_self : (m : ℕ) → (m == m) ≡ true
     eq_self m = eq-eqb m m refl
 
-sent_settled : (s n : ℕ) (limits : Limits) (c x : ℕ) (deed : Deed) (D : List Deed) → AreRightDeeds s n limits (deed ∷ D) → is_live s x D ≡ false → AllByRecursion (IsSettledTo s c x D) (sent (history_of s n D)) → AllByRecursion (IsSettledTo s c x (deed ∷ D)) (sent (history_of s n (deed ∷ D)))
+sent_settled : (s n : ℕ) (limits : Limits) (c x : ℕ) (deed : Deed) (D : List Deed) → number c (deed ∷ D) ≡ number c D → AreRightDeeds s n limits (deed ∷ D) → is_live s x D ≡ false → AllByRecursion (IsSettledTo s c x D) (sent (history_of s n D)) → AllByRecursion (IsSettledTo s c x (deed ∷ D)) (sent (history_of s n (deed ∷ D)))
 unfolding gifts
-sent_settled s n limits c x deed D right dead before =
+sent_settled s n limits c x deed D here right dead before =
     subst (AllByRecursion (IsSettledTo s c x (deed ∷ D))) (sym (sent_more s n deed D))
-    (all_append (IsSettledTo s c x (deed ∷ D)) (sent (history_of s n D)) _ (still_settled s c x deed D (sent (history_of s n D)) before)
+    (all_append (IsSettledTo s c x (deed ∷ D)) (sent (history_of s n D)) _ (still_settled s c x deed D here (sent (history_of s n D)) before)
     (new_settled s c x D (deed ∷ D) (gifts s n deed D (work s n D)) (sent (history_of s n D)) dead (all_filter (λ (gift : Gift). GuardsItem s D gift.item) (λ (gift : Gift). is_peer s n gift.to) (gifts_of s n deed D (work s n D)) (gifts_guarded s n limits deed D right.0))))
 
 -- ---- one deed more
@@ -119,39 +119,40 @@ dead_of s n limits c x D right refuses = dead_by (is_exported s x D) (is_withdra
 own_act : (s n : ℕ) (limits : Limits) (c x k : ℕ) (D : List Deed) → AreRightDeeds s n limits (did.Act c k ∷ D) → has_no (gave_of s n c x (did.Act c k ∷ D)) ≡ true → AllByRecursion (IsSettledTo s c x (did.Act c k ∷ D)) (sent (history_of s n (did.Act c k ∷ D)))
 own_act s n limits c x k D right refuses =
     let dead : is_live s x D ≡ false = dead_of s n limits c x (did.Act c k ∷ D) right refuses in
-    sent_settled s n limits c x (did.Act c k) D right dead
+    sent_settled s n limits c x (did.Act c k) D refl right dead
     (all_weaker (λ one. is_pinned D one ≡ true → AllByRecursion (λ rep. 1 ≤ pins rep (history_of s n D)) (counted_in one.item)) (IsSettledTo s c x D)
     (unpinned_settled s n limits c x D right.1 dead (act_open s n limits c k D right.0)) (sent (history_of s n D)) (pins_stand s n D))
 
 -- what is answered to a client by a deed that acts on nothing from it
-same_answers : (s n : ℕ) (limits : Limits) (c x : ℕ) (deed : Deed) (D : List Deed) → AreRightDeeds s n limits (deed ∷ D) → asked_of c x (deed ∷ D) ≡ asked_of c x D → gave_of s n c x (deed ∷ D) ≡ gave_of s n c x D
-same_answers s n limits c x deed D right same =
+same_answers : (s n : ℕ) (limits : Limits) (c x : ℕ) (deed : Deed) (D : List Deed) → number c (deed ∷ D) ≡ number c D → AreRightDeeds s n limits (deed ∷ D) → asked_of c x (deed ∷ D) ≡ asked_of c x D → gave_of s n c x (deed ∷ D) ≡ gave_of s n c x D
+same_answers s n limits c x deed D here right same =
     let more : List Bool = answers_among x (items_to c (gifts s n deed D (work s n D))) in
     let longer : gave_of s n c x (deed ∷ D) ≡ gave_of s n c x D ++ more =
-    ap (answers_among x) (gifts_sent_now c D (gifts s n deed D (work s n D)) (sent (history_of s n D)))
+    ap (λ (k : ℕ). answers_among x (items_sent_in c k (sent (history_of s n (deed ∷ D))))) here
+    ∙ ap (answers_among x) (gifts_sent_now c D (gifts s n deed D (work s n D)) (sent (history_of s n D)))
     ∙ filter_map-append (answer_in x) (items_sent_in c (number c D) (sent (history_of s n D))) (items_to c (gifts s n deed D (work s n D))) in
     let now : length (gave_of s n c x (deed ∷ D)) ≡ dirties_in (asked_of c x (deed ∷ D)) = (are_answered s n limits c x (deed ∷ D) right).in_turn.each in
     let earlier : length (gave_of s n c x D) ≡ dirties_in (asked_of c x D) = (are_answered s n limits c x D right.1).in_turn.each in
     let size : length (gave_of s n c x D) + length more ≡ length (gave_of s n c x D) = sym (length-append (gave_of s n c x D) more) ∙ ap length (sym longer) ∙ now ∙ ap dirties_in same ∙ sym earlier in
     longer ∙ ap (λ bs. gave_of s n c x D ++ bs) (nil_from_length more (omega (arith, size))) ∙ append-nil (gave_of s n c x D)
 
-other_deed : (s n : ℕ) (limits : Limits) (c x : ℕ) (deed : Deed) (D : List Deed) → AreRightDeeds s n limits (deed ∷ D) → asked_of c x (deed ∷ D) ≡ asked_of c x D → (has_no (gave_of s n c x D) ≡ true → AllByRecursion (IsSettledTo s c x D) (sent (history_of s n D))) → has_no (gave_of s n c x (deed ∷ D)) ≡ true → AllByRecursion (IsSettledTo s c x (deed ∷ D)) (sent (history_of s n (deed ∷ D)))
-other_deed s n limits c x deed D right same before refuses =
-    let earlier : has_no (gave_of s n c x D) ≡ true = ap has_no (sym (same_answers s n limits c x deed D right same)) ∙ refuses in
-    sent_settled s n limits c x deed D right (dead_of s n limits c x D right.1 earlier) (before earlier)
+other_deed : (s n : ℕ) (limits : Limits) (c x : ℕ) (deed : Deed) (D : List Deed) → number c (deed ∷ D) ≡ number c D → AreRightDeeds s n limits (deed ∷ D) → asked_of c x (deed ∷ D) ≡ asked_of c x D → (has_no (gave_of s n c x D) ≡ true → AllByRecursion (IsSettledTo s c x D) (sent (history_of s n D))) → has_no (gave_of s n c x (deed ∷ D)) ≡ true → AllByRecursion (IsSettledTo s c x (deed ∷ D)) (sent (history_of s n (deed ∷ D)))
+other_deed s n limits c x deed D here right same before refuses =
+    let earlier : has_no (gave_of s n c x D) ≡ true = ap has_no (sym (same_answers s n limits c x deed D here right same)) ∙ refuses in
+    sent_settled s n limits c x deed D here right (dead_of s n limits c x D right.1 earlier) (before earlier)
 
 act_deed : (s n : ℕ) (limits : Limits) (c x q k : ℕ) (D : List Deed) → AreRightDeeds s n limits (did.Act q k ∷ D) → (has_no (gave_of s n c x D) ≡ true → AllByRecursion (IsSettledTo s c x D) (sent (history_of s n D))) → has_no (gave_of s n c x (did.Act q k ∷ D)) ≡ true → (own : Bool) → (q == c) ≡ own → AllByRecursion (IsSettledTo s c x (did.Act q k ∷ D)) (sent (history_of s n (did.Act q k ∷ D)))
 act_deed s n limits c x q k D right before refuses true own =
     let same : c ≡ q = sym (eqb-true q c own) in
     subst (λ (r : ℕ). AreRightDeeds s n limits (did.Act r k ∷ D) → has_no (gave_of s n c x (did.Act r k ∷ D)) ≡ true → AllByRecursion (IsSettledTo s c x (did.Act r k ∷ D)) (sent (history_of s n (did.Act r k ∷ D)))) same (own_act s n limits c x k D) right refuses
 act_deed s n limits c x q k D right before refuses false own =
-    other_deed s n limits c x (did.Act q k) D right (ap (λ (b : Bool). asks_among x (items_among (cond b (acted c D ++ (k, item_at c k D) ∷ []) (acted c D)))) own) before refuses
+    other_deed s n limits c x (did.Act q k) D refl right (ap (λ (b : Bool). asks_among x (items_among (cond b (acted c D ++ (k, item_at c k D) ∷ []) (acted c D)))) own) before refuses
 
 -- in every list of right deeds all that went to a client with a reference to what it was denied is settled
 pub denied_settled : (s n : ℕ) (limits : Limits) (c x : ℕ) (D : List Deed) → AreRightDeeds s n limits D → has_no (gave_of s n c x D) ≡ true → AllByRecursion (IsSettledTo s c x D) (sent (history_of s n D))
 denied_settled s n limits c x [] right refuses = tt
 denied_settled s n limits c x (did.Act q k ∷ D) right refuses = act_deed s n limits c x q k D right (denied_settled s n limits c x D right.1) refuses (q == c) refl
-denied_settled s n limits c x (deed ∷ D) right refuses = other_deed s n limits c x deed D right refl (denied_settled s n limits c x D right.1) refuses
+denied_settled s n limits c x (deed ∷ D) right refuses = other_deed s n limits c x deed D refl right refl (denied_settled s n limits c x D right.1) refuses
 
 -- ---- each session
 

@@ -1,24 +1,19 @@
 -- What is true of the session in which a space is, is true of each in which it has been: a deed sends and acts in that session alone
 -- to which it comes, and a session that it opens is above.
-use Rattle.std.proofs.Common.{◌≡◌, ℕ, ◌≤◌, ◌&&◌, Bool, true, false, cond, List, [], ◌∷◌, ◌++◌, Option, refl, sym, ap, subst, ◌∙◌, ◌⊎◌, inl, inr, arith}
+use Rattle.std.proofs.Common.{◌≡◌, ℕ, ◌≤◌, Bool, true, false, List, [], ◌∷◌, Option, refl, sym, ap, subst, ◌∙◌, ◌⊎◌, inl, inr, arith}
 use Rattle.std.specs.Prelude.{◌==◌, ◌≢◌, ◌<◌}
 use Rattle.std.proofs.lemmas.Bool.{eqb-true, ne_eqb, or_right}
-use Rattle.std.proofs.lemmas.List.{append-nil}
 use Rattle.nob_ids.specs.declared.limits.Limits.{Limits}
 use Rattle.nob_item.specs.declared.item.Item.{Item}
 use Rattle.nob_model_types.specs.declared.entry.Entry.{Entry}
 use Rattle.nob_model_types.specs.declared.deed.Deed.{Deed}
 use Rattle.nob_model_types.specs.declared.deed.Deed.TheVariants as did
-use Rattle.nob_model_types.specs.Sessions.{closed, number, item_at}
-use Rattle.nob_model_work.specs.Work.{work}
-use Rattle.nob_model_work.specs.Gifts.{gifts}
-use Rattle.nob_model_work.specs.declared.gifts.Gift.{Gift}
+use Rattle.nob_model_types.specs.Sessions.{closed, number}
 use Rattle.nob_model_history.specs.Histories.{history_of}
-use Rattle.nob_model_history.specs.Ends.{items_to}
 use Rattle.nob_model_history.specs.Transit.{sent}
 use Rattle.nob_model_history.proofs.Numbered.{items_sent_in}
 use Rattle.nob_model.specs.Lists.{IsRightDeed, AreRightDeeds}
-use Rattle.nob_model_journal.specs.Journals.{deeds_at, number_at, closed_at, sent_in, acted_during, acted_in}
+use Rattle.nob_model_journal.specs.Journals.{deeds_at, number_at, sent_in, acted_during, acted_in}
 use Rattle.nob_model_journal.specs.Runs.{WorldRun}
 use Rattle.nob_model_invariant.proofs.Entries.{grows, right_deeds_at}
 use Rattle.nob_model_invariant.proofs.BySession.{sent_stays, acted_stays}

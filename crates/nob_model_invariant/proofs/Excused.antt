@@ -26,13 +26,13 @@ use Rattle.nob_model_work.specs.Work.{work}
 use Rattle.nob_model_history.specs.declared.transit.SentItem.{SentItem}
 use Rattle.nob_model_history.specs.Histories.{history_of}
 use Rattle.nob_model_history.specs.Premises.{TookTurns, AnswersPending}
-use Rattle.nob_model_history.specs.Transit.{is_sent_to, is_some_of, is_settled, is_of_present, is_pinned, owner_session, pins, sent}
+use Rattle.nob_model_history.specs.Transit.{is_some_of, is_settled, is_of_present, is_pinned, owner_session, pins, sent}
 use Rattle.nob_model_history.proofs.Sending.{sent_more}
 use Rattle.nob_model_history.proofs.Turning.{same_ref, named_ref, shapes, after_clean}
 use Rattle.nob_model.specs.Lists.{AreRightDeeds}
 use Rattle.nob_model.proofs.Premises.{took_turns}
 use Rattle.nob_model.proofs.Carrying.{all_found}
-use Rattle.nob_model.proofs.Waiting.{act_open, all_weaker}
+use Rattle.nob_model.proofs.Waiting.{act_open}
 use Rattle.nob_model_journal.specs.Fronts.{with_numbers, ActsInOrder}
 use Rattle.nob_model_journal.specs.Journals.{deeds_at, history_at, closed_at, number_at, are_in_one, both_open, sent_in, sent_now, sent_to, acted_in, acted_from}
 use Rattle.nob_model_journal.specs.Losses.{is_carried, is_loss, is_source, was_with_owner, is_open_source, is_excuse, sources, LosesExcused}

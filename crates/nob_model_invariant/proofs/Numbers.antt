@@ -59,9 +59,10 @@ none_some x e = cc
 
 -- what two spaces had reached they have reached
 still_reached : (n k a b : ℕ) (limits : ℕ → Limits) (entry : Entry) (J : List Entry) → WorldRun n limits (entry ∷ J) → IsReached k a b J → IsReached k a b (entry ∷ J)
-still_reached n k a b limits entry J run low =
-    (let here = rises n a b limits entry J run in let most = low.0 in omega (arith, here, most),
-    let there = rises n b a limits entry J run in let most = low.1 in omega (arith, there, most))
+still_reached n k a b limits entry J run low = (
+  let here = rises n a b limits entry J run in let most = low.0 in omega (arith, here, most),
+  let there = rises n b a limits entry J run in let most = low.1 in omega (arith, there, most),
+)
 
 -- ---- what is given carries what is own or granted
 
@@ -147,10 +148,13 @@ module _ (n a : ℕ) (limits : ℕ → Limits) (J : List Entry) (run : WorldRun 
   new_reached rep [] before all = tt
   new_reached rep (gift ∷ more) before all =
       let reps : List WireRep = counted_in gift.item in
-      let D : List Deed = deeds_at a J in
-      ((place_has rep D (λ (other : WireRep). number other.owner D) reps (own_numbers D reps),
-      place_has rep D (λ (other : WireRep). number_at other.owner a J) reps (all_weaker (λ other. is_owned a n other D ≡ true) (λ (other : WireRep). number other.owner D ≤ number_at other.owner a J) owned_reached reps all.0)),
-      new_reached rep more (before ++ next_sent D before gift ∷ []) all.1)
+      let D : List Deed = deeds_at a J in (
+        (
+          place_has rep D (λ (other : WireRep). number other.owner D) reps (own_numbers D reps),
+          place_has rep D (λ (other : WireRep). number_at other.owner a J) reps (all_weaker (λ other. is_owned a n other D ≡ true) (λ (other : WireRep). number other.owner D ≤ number_at other.owner a J) owned_reached reps all.0),
+        ),
+        new_reached rep more (before ++ next_sent D before gift ∷ []) all.1,
+      )
 
   deed_with_owner : (rep : WireRep) (deed : Deed) → AreRightDeeds a n (limits a) (deed ∷ deeds_at a J) → AllByRecursion (IsWithOwner a rep J) (sent (history_at a n J)) → AllByRecursion (IsWithOwner a rep J) (sent (history_of a n (deed ∷ deeds_at a J)))
   unfolding gifts
