@@ -18,4 +18,5 @@ pub use fault::{CheckError, CheckFault, WrongEntry};
 pub use lowest::lower_of;
 pub use merging::{copy_entry, merge};
 pub use moment::Moment;
+pub use running::first_wrong;
 pub use set::are_one_each;
