@@ -2,12 +2,10 @@
 #![tactic(auto)]
 
 mod chain;
-mod digits;
 mod fault;
 mod head;
 mod head_reading;
 pub mod laws;
-mod lines;
 mod numbers;
 mod reading;
 mod seal;

@@ -17,13 +17,12 @@ use crate::chain::{Chain, ChainParts};
 use crate::fault::{ChainError, ChainFault};
 use crate::head::ChainHead;
 use crate::head_reading::{count_of, head_of};
-use crate::lines::whole_line;
 use crate::seal::Seal;
 use crate::seal_reading::spelt_seal;
 use crate::segment::{Segment, Segments};
 use nob_frame::Version;
 use nob_model_text::Unread;
-use nob_trace::{Entries, Stamped, entry_of};
+use nob_trace::{Entries, Stamped, entry_of, whole_line};
 use std::alloc::Global;
 
 /// The one chain that a text is, or what the first line that isn't as it should be is refused for:

@@ -110,8 +110,9 @@ fn spaces_at(version: Version, text: &[u8]) -> Option<(u64, u64, &[u8])>
     }
 }
 
-// The numbers of the limits at the front of a text, and what is left behind the space that follows.
-fn limits_at(text: &[u8]) -> Option<(u64, u64, &[u8])>
+/// The numbers of the limits at the front of a text, and what is left behind the space that
+/// follows: `None` where there are none. It takes no memory.
+pub fn limits_at(text: &[u8]) -> Option<(u64, u64, &[u8])>
     ensures found { IfSome result (λ parts. text.now ≡ codes "window " ++ (decimal parts.0 ++
         (codes " retry " ++ (decimal parts.1 ++ 32 ∷ parts.2.now)))) }
     ensures only { (window retry : ℕ) (rest : List ℕ) → window < 2 ^ 64 → retry < 2 ^ 64

@@ -100,8 +100,8 @@ fn put_entries(
     Ok(())
 }
 
-// The text of an entry.
-fn entry_text(alloc: Global, version: Version, entry: &Stamped) -> Result<String, TraceError>
+/// The text of an entry in a trace of this version, or R2 where a frame in it has no spelling.
+pub fn entry_text(alloc: Global, version: Version, entry: &Stamped) -> Result<String, TraceError>
     ensures { Writes (λ text. string_bytes text ≡ entries.entry_text version entry.now)
         (entries.HasSpelling version entry.now) result }
 {
