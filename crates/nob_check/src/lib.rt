@@ -20,5 +20,7 @@ mod withdraws;
 pub use checking::check;
 pub use judging::judge;
 pub use merged::Merged;
+pub use origins::first_fault;
+pub use running::answers;
 pub use nob_model_journal::{Promise, Verdict};
 pub use nob_model_traces::{CheckError, CheckFault};

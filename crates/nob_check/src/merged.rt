@@ -27,8 +27,8 @@ impl Model for Merged {
 }
 
 impl Merged {
-    // These entries.
-    pub(crate) fn from_vec(entries: Vec<Entry>) -> Merged
+    /// The list of a `Vec`. It takes no memory.
+    pub fn from_vec(entries: Vec<Entry>) -> Merged
         ensures { result ≡ entries.items }
     {
         Merged { entries }

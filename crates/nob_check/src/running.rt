@@ -35,8 +35,8 @@ fn is_refusal(told: &Result<Answer, Refusal>, refusal: Refusal) -> bool
     }
 }
 
-// Whether a space answers an event as a trace has it. Only memory fails it.
-fn answers(space: &mut Space, stamped: &Stamped) -> Result<bool, AllocError>
+/// Whether a space answers an event as a trace has it. Only memory fails it.
+pub fn answers(space: &mut Space, stamped: &Stamped) -> Result<bool, AllocError>
     ensures right { IfOk result (λ same. (L : List EntryOf) → StandsFor space.old L
         → (same ≡ true) ↔ IsRight space.old.id space.old.n space.old.limits
         (entry_at space.old.id stamped.now) L) }

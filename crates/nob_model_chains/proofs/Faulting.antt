@@ -21,7 +21,7 @@ use Rattle.nob_model_chains.specs.Sealing.{first_wrong_seal}
 use Rattle.nob_model_chains.specs.Parts.{IsRightChain, IsFirstWrongPart}
 use Rattle.nob_model_chains.specs.Lowest.{fault_at}
 use Rattle.nob_model_chains.specs.Faults.{AreSealedBefore, IsFault, AreAccepted}
-use Rattle.nob_model_chains.proofs.Joining.{all_joined, contains_joined}
+use Rattle.nob_model_chains.proofs.AsTraces.{all_joined, contains_joined}
 
 -- a wrong entry of the lowest space is one of the traces
 wrong_entry : (cs : List ChainParts) (space place : ℕ) → IsFirstWrongPart cs space (parts.Entry place) → IsFirstNoRun (map joined cs) space place

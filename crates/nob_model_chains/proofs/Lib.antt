@@ -1,4 +1,4 @@
 pub mod Choosing
 pub mod Passing
-pub mod Joining
+pub mod AsTraces
 pub mod Faulting

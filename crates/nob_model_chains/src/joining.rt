@@ -1,7 +1,7 @@
 //! Chains as the traces that they are.
 
 ghost use Rattle.std.specs.Prelude.{◌≡◌, ◌++◌, IfOk, OnOk, map};
-ghost use Rattle.nob_chain.specs.Chains as chains;
+ghost use Rattle.nob_chain.specs.Chains as words;
 
 use nob_chain::{Chain, Segment};
 use nob_frame::Version;
@@ -40,7 +40,7 @@ fn put_entries(all: &mut Vec<Stamped>, entries: &[Stamped]) -> Result<(), AllocE
 
 // Copies of the entries of segments, one segment after the other.
 fn entries_of(alloc: Global, segments: &[Segment]) -> Result<Vec<Stamped>, AllocError>
-    ensures { IfOk result (λ all. all.items ≡ chains.entries_of segments.now) }
+    ensures { IfOk result (λ all. all.items ≡ words.entries_of segments.now) }
 {
     let mut all = Vec::new(alloc);
     for segment in segments {
@@ -51,7 +51,7 @@ fn entries_of(alloc: Global, segments: &[Segment]) -> Result<Vec<Stamped>, Alloc
 
 /// A copy of a chain as the trace that it is. Only memory fails it.
 pub fn joined(alloc: Global, chain: &Chain) -> Result<Trace, AllocError>
-    ensures { IfOk result (λ trace. trace ≡ chains.joined chain.now) }
+    ensures { IfOk result (λ trace. trace ≡ words.joined chain.now) }
 {
     chain.kept();
     let parts = chain.parts();
@@ -67,7 +67,7 @@ pub fn joined(alloc: Global, chain: &Chain) -> Result<Trace, AllocError>
 
 /// Copies of chains as the traces that they are. Only memory fails it.
 pub fn all_joined(alloc: Global, chains: &[Chain]) -> Result<Vec<Trace>, AllocError>
-    ensures { IfOk result (λ traces. traces.items ≡ map chains.joined chains.now) }
+    ensures { IfOk result (λ traces. traces.items ≡ map words.joined chains.now) }
 {
     let mut traces = Vec::new(alloc);
     for chain in chains {
