@@ -35,11 +35,11 @@ all_typed chains right = all_joined IsRightAndSealed IsRightAndTyped chains (λ 
 pub run_of : (chains : List ChainParts) (merged : List Entry) (limits : ℕ → Limits) → AreAccepted chains merged → AllByRecursion IsRightAndSealed chains → ChainsHaveLimits limits chains → WorldRun (length chains) limits (reverse merged)
 run_of chains merged limits accepted right its =
     let traces = accepted.traces in
-    subst (λ (n : ℕ). WorldRun n limits (reverse merged)) (length-map joined chains)
+    subst (λ (n : ℕ). WorldRun n limits (reverse merged)) (length-map chains joined)
     (world_run (map joined chains) merged limits traces.runs.one_each (all_typed chains right) traces.is_merged traces.origins its).0
 
 pub safe_of : (chains : List ChainParts) (merged : List Entry) → AreAccepted chains merged → AllByRecursion IsRightAndSealed chains → IsSafe (length chains) (reverse merged)
-safe_of chains merged accepted right = subst (λ (n : ℕ). IsSafe n (reverse merged)) (length-map joined chains) (below.safe_of (map joined chains) merged accepted.traces (all_typed chains right))
+safe_of chains merged accepted right = subst (λ (n : ℕ). IsSafe n (reverse merged)) (length-map chains joined) (below.safe_of (map joined chains) merged accepted.traces (all_typed chains right))
 
 -- ---- nothing else
 

@@ -1,6 +1,6 @@
 -- The segments of a chain, of which some were passed.
 use Rattle.std.proofs.Common.{◌≡◌, ℕ, ◌+◌, ◌<◌, Bool, true, false, List, [], ◌∷◌, ◌++◌, length, map, reverse, Option, Some, None, if◌then◌else◌, refl, sym, ap, subst, ◌∙◌, append_assoc, arith}
-use Prim.Native.Nat.{suc}
+use Prim.Native.Nat.{zero, suc}
 use Rattle.std.specs.Prelude.{drop, take, slice_get}
 use Rattle.std.specs.List.{AllByRecursion}
 use Rattle.std.specs.Option.{option_or}
@@ -41,7 +41,7 @@ entries_more segments i x is = ap entries_of (take_one segments i x is) ∙ entr
 -- each segment has entries
 pub part_at : (own n : ℕ) (segments : List Segment) (i : ℕ) (x : Segment) → AllByRecursion (IsPart own n) segments → slice_get segments i ≡ Some x → IsPart own n x
 part_at own n [] i x all is = absurd cc
-part_at own n (y ∷ ys) 0 x all is = subst (IsPart own n) (let same : y ≡ x = cc in same) all.0
+part_at own n (y ∷ ys) zero x all is = subst (IsPart own n) (let same : y ≡ x = cc in same) all.0
 part_at own n (y ∷ ys) (suc i) x all is = part_at own n ys i x all.1 is
 
 pub last_here : (before es : List Stamped) → 0 < length es → last_stamp 0 (before ++ es) ≡ last_stamp 0 es
