@@ -8,20 +8,22 @@ use Rattle.std.proofs.lemmas.List.Elements.{filter-append}
 use Rattle.std.proofs.lemmas.List.Folds.{list_all-map}
 use Rattle.nob_item.specs.declared.item.Item.{Item}
 use Rattle.nob_model_types.specs.declared.entry.Entry.{Entry}
-use Rattle.nob_model_types.specs.Sessions.{acted, item_at}
+use Rattle.nob_model_types.specs.Sessions.{number, item_at}
 use Rattle.nob_model_types.specs.declared.deed.Deed.{Deed}
 use Rattle.nob_model_types.specs.declared.deed.Deed.TheVariants.{Act, Withdraw}
 use Rattle.nob_model_work.specs.Gifts.{all_gifts}
+use Rattle.nob_model_history.specs.Transit.{sent}
+use Rattle.nob_model_history.specs.declared.transit.SentItem.{SentItem}
 use Rattle.nob_model.specs.Right.{own_ref}
-use Rattle.nob_model_journal.specs.Journals.{deeds_at, sent_to, acted_from}
-use Rattle.nob_model_journal.specs.Tests.{spaces_in, senders_in, is_front, is_unneeded, reps_at_risk, is_excused, is_lossless, acts_while_open, sends_while_open, has_fronts, keeps_fronts}
+use Rattle.nob_model_journal.specs.Journals.{deeds_at, history_at, acted_during, acted_in, sent_in}
+use Rattle.nob_model_journal.specs.Tests.{spaces_in, sessions_in, is_front, is_unneeded, reps_at_risk, is_excused, is_lossless, acts_while_open, sends_while_open, has_fronts, keeps_fronts}
 use Rattle.nob_check_ledgers.specs.Ledgers.{acted_items}
 use Rattle.nob_check_ledgers.specs.declared.lists.ActedItem.{ActedItem}
 use Rattle.nob_check_ledgers.specs.declared.ledger.Ledger.{Ledger}
 use Rattle.nob_check.specs.Books.{books_of, find_ledger, did_by, sent_by}
-use Rattle.nob_check.specs.Checks.{needs_by, is_unneeded_by, is_act_excused_by, is_lossless_in, is_lossless_by, acted_from_by, items_to, is_in_order_by, has_fronts_by, keeps_fronts_by}
+use Rattle.nob_check.specs.Checks.{needs_by, is_unneeded_by, is_act_excused_by, is_lossless_in, is_lossless_by, is_acted_in, acted_from_by, items_to, is_in_order_by, has_fronts_by, keeps_fronts_by}
 use Rattle.nob_model_journal.proofs.Looking.{is_in, no_deed}
-use Rattle.nob_check.proofs.Ledgers.{ledger_at, found_at, did_same, sent_is}
+use Rattle.nob_check.proofs.Ledgers.{ledger_at, found_at, did_same, sent_is, sent_same}
 
 -- whether a deed isn't the withdrawal of what a space needs
 pub unneeded_is : (n s : ℕ) (deed : Option Deed) (J : List Entry) → is_unneeded_by s deed (books_of n J) ≡ is_unneeded n s deed J
@@ -32,14 +34,14 @@ unneeded_is n s (Some (Withdraw index)) J =
 unneeded_is n s (Some _) J = refl
 
 -- whether what an Act loses is excused
-act_lossless : (n s p k : ℕ) (J : List Entry) (t : Bool) → is_in s (spaces_in J) ≡ t → is_lossless_in (did_by (books_of n J)) p k (find_ledger s (books_of n J)) ≡ is_lossless n s (Some (Act p k)) J
+act_lossless : (n s p k : ℕ) (J : List Entry) (t : Bool) → is_in s (spaces_in J) ≡ t → is_lossless_in (did_by (books_of n J)) (sent_by (books_of n J)) p k (find_ledger s (books_of n J)) ≡ is_lossless n s (Some (Act p k)) J
 act_lossless n s p k J true there =
-    ap (λ (found : Option Ledger). is_lossless_in (did_by (books_of n J)) p k found) (found_at n J s (spaces_in J))
-    ∙ ap (λ (b : Bool). is_lossless_in (did_by (books_of n J)) p k (cond b (Some (ledger_at n J s)) None)) there
-    ∙ ap (λ (did : ℕ → List Deed). is_act_excused_by did n s p k (deeds_at s J)) (did_same n J)
+    ap (λ (found : Option Ledger). is_lossless_in (did_by (books_of n J)) (sent_by (books_of n J)) p k found) (found_at n J s (spaces_in J))
+    ∙ ap (λ (b : Bool). is_lossless_in (did_by (books_of n J)) (sent_by (books_of n J)) p k (cond b (Some (ledger_at n J s)) None)) there
+    ∙ (λ i. is_act_excused_by (did_same n J i) (sent_same n J i) n s p k (deeds_at s J))
 act_lossless n s p k J false none =
-    ap (λ (found : Option Ledger). is_lossless_in (did_by (books_of n J)) p k found) (found_at n J s (spaces_in J))
-    ∙ ap (λ (b : Bool). is_lossless_in (did_by (books_of n J)) p k (cond b (Some (ledger_at n J s)) None)) none
+    ap (λ (found : Option Ledger). is_lossless_in (did_by (books_of n J)) (sent_by (books_of n J)) p k found) (found_at n J s (spaces_in J))
+    ∙ ap (λ (b : Bool). is_lossless_in (did_by (books_of n J)) (sent_by (books_of n J)) p k (cond b (Some (ledger_at n J s)) None)) none
     ∙ sym (ap (λ (D : List Deed). list_all (is_excused n s p k J) (reps_at_risk p (item_at p k D))) (no_deed s J none))
 
 -- whether what a deed loses is excused
@@ -50,42 +52,56 @@ lossless_is n s (Some _) J = refl
 
 -- ---- fronts
 
--- what was acted on from a space
-acted_is : (a : ℕ) (D : List Deed) → acted_from_by a (acted_items D) ≡ acted a D
-acted_is a [] = refl
-acted_is a (Act q k ∷ D) = parted ∙ by (acted_is a D) (q == a) refl
+-- what was acted on from a space in a session
+acted_is : (a k : ℕ) (D : List Deed) → acted_from_by a k (acted_items D) ≡ acted_during a k D
+acted_is a k [] = refl
+acted_is a k (Act q j ∷ D) = parted ∙ by (acted_is a k D) (q == a) (number a D == k) refl refl
   where
     one : ActedItem
-    one = record { from = q; number = k; item = item_at q k D }
+    one = record { from = q; session = number q D; number = j; item = item_at q j D }
 
     pair : ActedItem → ℕ × Option Item
     pair x = (x.number, x.item)
 
-    parted : acted_from_by a (acted_items D ++ one ∷ []) ≡ acted_from_by a (acted_items D) ++ acted_from_by a (one ∷ [])
+    before : List (ℕ × Option Item)
+    before = acted_from_by a k (acted_items D)
+
+    parted : acted_from_by a k (acted_items D ++ one ∷ []) ≡ before ++ acted_from_by a k (one ∷ [])
     parted =
-        ap (map pair) (filter-append (λ (x : ActedItem). x.from == a) (acted_items D) (one ∷ []))
-        ∙ map-append pair (filter (λ (x : ActedItem). x.from == a) (acted_items D)) (filter (λ (x : ActedItem). x.from == a) (one ∷ []))
+        ap (map pair) (filter-append (is_acted_in a k) (acted_items D) (one ∷ []))
+        ∙ map-append pair (filter (is_acted_in a k) (acted_items D)) (filter (is_acted_in a k) (one ∷ []))
 
-    by : acted_from_by a (acted_items D) ≡ acted a D → (t : Bool) → q == a ≡ t → acted_from_by a (acted_items D) ++ acted_from_by a (one ∷ []) ≡ acted a (Act q k ∷ D)
-    by rest true same =
-        ap (λ (b : Bool). acted_from_by a (acted_items D) ++ map pair (cond b (one ∷ []) [])) same
-        ∙ ap (λ (x : ℕ). acted_from_by a (acted_items D) ++ (k, item_at x k D) ∷ []) (eqb-true q a same)
-        ∙ ap (λ (xs : List (ℕ × Option Item)). xs ++ (k, item_at a k D) ∷ []) rest
-        ∙ sym (ap (λ (b : Bool). cond b (acted a D ++ (k, item_at a k D) ∷ []) (acted a D)) same)
-    by rest false other =
-        ap (λ (b : Bool). acted_from_by a (acted_items D) ++ map pair (cond b (one ∷ []) [])) other
-        ∙ append-nil (acted_from_by a (acted_items D))
+    more : Bool → List (ℕ × Option Item)
+    more b = cond b (acted_during a k D ++ (j, item_at a j D) ∷ []) (acted_during a k D)
+
+    by : before ≡ acted_during a k D → (t u : Bool) → q == a ≡ t → number a D == k ≡ u → before ++ map pair (cond (q == a && number q D == k) (one ∷ []) []) ≡ more (q == a && number a D == k)
+    by rest true true same here =
+        ap (λ (b : Bool). before ++ map pair (cond (b && number q D == k) (one ∷ []) [])) same
+        ∙ ap (λ (x : ℕ). before ++ map pair (cond (number x D == k) (record { from = x; session = number x D; number = j; item = item_at x j D } ∷ []) [])) (eqb-true q a same)
+        ∙ ap (λ (b : Bool). before ++ map pair (cond b (record { from = a; session = number a D; number = j; item = item_at a j D } ∷ []) [])) here
+        ∙ ap (λ (xs : List (ℕ × Option Item)). xs ++ (j, item_at a j D) ∷ []) rest
+        ∙ sym (λ i. more (same i && here i))
+    by rest true false same other =
+        ap (λ (b : Bool). before ++ map pair (cond (b && number q D == k) (one ∷ []) [])) same
+        ∙ ap (λ (x : ℕ). before ++ map pair (cond (number x D == k) (one ∷ []) [])) (eqb-true q a same)
+        ∙ ap (λ (b : Bool). before ++ map pair (cond b (one ∷ []) [])) other
+        ∙ append-nil before
         ∙ rest
-        ∙ sym (ap (λ (b : Bool). cond b (acted a D ++ (k, item_at a k D) ∷ []) (acted a D)) other)
-acted_is a (_ ∷ D) = acted_is a D
+        ∙ sym (λ i. more (same i && other i))
+    by rest false u apart is =
+        ap (λ (b : Bool). before ++ map pair (cond (b && number q D == k) (one ∷ []) [])) apart
+        ∙ append-nil before
+        ∙ rest
+        ∙ sym (ap (λ (b : Bool). more (b && number a D == k)) apart)
+acted_is a k (_ ∷ D) = acted_is a k D
 
--- whether what b acted on from a is a front
-in_order : (n : ℕ) (J : List Entry) (a b : ℕ) → is_in_order_by (sent_by (books_of n J)) (ledger_at n J b) a ≡ is_front 1 (acted_from a b J) (sent_to n a b J)
-in_order n J a b = λ i. is_front 1 (acted_is a (deeds_at b J) i) (items_to b (sent_is n J a i))
+-- whether what b acted on in a session is a front
+in_order : (n : ℕ) (J : List Entry) (b : ℕ) (session : ℕ × ℕ) → is_in_order_by (sent_by (books_of n J)) (ledger_at n J b) session ≡ is_front 1 (acted_in session.0 b session.1 J) (sent_in n session.0 b session.1 J)
+in_order n J b session = λ i. is_front 1 (acted_is session.0 session.1 (deeds_at b J) i) (items_to b session.1 (sent_is n J session.0 i))
 
 -- the fronts of a space
 fronts_at : (n : ℕ) (J : List Entry) (b : ℕ) → has_fronts_by (sent_by (books_of n J)) (ledger_at n J b) ≡ has_fronts n J b
-fronts_at n J b = λ i. list_all (λ a. in_order n J a b i) (senders_in (deeds_at b J)) && acts_while_open (deeds_at b J) && sends_while_open (deeds_at b J) (all_gifts b n (deeds_at b J))
+fronts_at n J b = λ i. list_all (λ session. in_order n J b session i) (sessions_in (deeds_at b J)) && acts_while_open (deeds_at b J) && sends_while_open (deeds_at b J) (all_gifts b n (deeds_at b J))
 
 -- all fronts
 pub fronts_are : (n : ℕ) (J : List Entry) → keeps_fronts_by (books_of n J) ≡ keeps_fronts n J

@@ -3,10 +3,11 @@ use Rattle.std.proofs.Common.{◌≡◌, ◌&&◌, ℕ, ◌+◌, ◌<◌, ◌≤
 use Rattle.std.specs.Prelude.{◌==◌}
 use Rattle.std.proofs.lemmas.List.{drop_more, drop_all}
 use Rattle.nob_item.specs.declared.item.Item.{Item}
+use Rattle.nob_model_history.specs.Transit.{is_sent_to}
 use Rattle.nob_model_history.specs.declared.transit.SentItem.{SentItem}
 use Rattle.nob_model_journal.specs.Tests.{is_front, same_item}
 use Rattle.nob_check_ledgers.specs.declared.lists.ActedItem.{ActedItem}
-use Rattle.nob_check.specs.Checks.{acted_from_by, items_to, behind}
+use Rattle.nob_check.specs.Checks.{is_acted_in, acted_from_by, items_to, behind}
 
 -- ---- a list that is made of another, part by part
 
@@ -24,20 +25,20 @@ more_passed F parts xs i x now next all less same one so_far =
 pub all_passed : {A B : Type 0} (F : List A → List B) (xs : List A) (i : ℕ) (now all : List B) → length xs ≤ i → F [] ≡ [] → now ++ F (drop i xs) ≡ all → now ≡ all
 all_passed F xs i now all end none so_far = sym (append-nil now) ∙ ap (λ ys. now ++ ys) (sym none) ∙ ap (λ ys. now ++ F ys) (sym (drop_all i xs end)) ∙ so_far
 
--- what was acted on from a space
-pub acted_parts : (a : ℕ) (x : ActedItem) (xs : List ActedItem) → acted_from_by a (x ∷ xs) ≡ acted_from_by a (x ∷ []) ++ acted_from_by a xs
-acted_parts a x xs =
+-- what was acted on from a space in a session
+pub acted_parts : (a k : ℕ) (x : ActedItem) (xs : List ActedItem) → acted_from_by a k (x ∷ xs) ≡ acted_from_by a k (x ∷ []) ++ acted_from_by a k xs
+acted_parts a k x xs =
     let pair : ActedItem → ℕ × Option Item = λ y. (y.number, y.item) in
-    elim (x.from == a) as (λ b. map pair (cond b (x ∷ filter (λ (y : ActedItem). y.from == a) xs) (filter (λ (y : ActedItem). y.from == a) xs)) ≡ map pair (cond b (x ∷ []) []) ++ acted_from_by a xs) [
+    elim (is_acted_in a k x) as (λ b. map pair (cond b (x ∷ filter (is_acted_in a k) xs) (filter (is_acted_in a k) xs)) ≡ map pair (cond b (x ∷ []) []) ++ acted_from_by a k xs) [
       | true ↦ refl
       | false ↦ refl
     ]
 
--- what was sent to a space
-pub sent_parts : (b : ℕ) (x : SentItem) (xs : List SentItem) → items_to b (x ∷ xs) ≡ items_to b (x ∷ []) ++ items_to b xs
-sent_parts b x xs =
+-- what was sent to a space in a session
+pub sent_parts : (b k : ℕ) (x : SentItem) (xs : List SentItem) → items_to b k (x ∷ xs) ≡ items_to b k (x ∷ []) ++ items_to b k xs
+sent_parts b k x xs =
     let item : SentItem → Item = λ y. y.item in
-    elim (x.to == b) as (λ t. map item (cond t (x ∷ filter (λ (y : SentItem). y.to == b) xs) (filter (λ (y : SentItem). y.to == b) xs)) ≡ map item (cond t (x ∷ []) []) ++ items_to b xs) [
+    elim (is_sent_to b k x) as (λ t. map item (cond t (x ∷ filter (is_sent_to b k) xs) (filter (is_sent_to b k) xs)) ≡ map item (cond t (x ∷ []) []) ++ items_to b k xs) [
       | true ↦ refl
       | false ↦ refl
     ]

@@ -5,8 +5,8 @@ use Rattle.std.proofs.lemmas.Bool.{eqb-true}
 use Rattle.nob_model_types.specs.declared.entry.Entry.{Entry}
 use Rattle.nob_model_types.specs.declared.deed.Deed.{Deed}
 use Rattle.nob_model_work.specs.Gifts.{all_gifts}
-use Rattle.nob_model_history.specs.Transit.{sent_of}
-use Rattle.nob_model_journal.specs.Journals.{deeds_at}
+use Rattle.nob_model_history.specs.Transit.{sent_of, sent}
+use Rattle.nob_model_journal.specs.Journals.{deeds_at, history_at}
 use Rattle.nob_model_journal.specs.Tests.{spaces_in}
 use Rattle.nob_model_journal.proofs.Looking.{is_in, no_deed}
 use Rattle.nob_check_ledgers.specs.Ledgers.{ledger_of}
@@ -45,11 +45,15 @@ pub did_same : (n : ℕ) (J : List Entry) → did_by (books_of n J) ≡ (λ s. d
 did_same n J = λ i. λ s. did_is n J s i
 
 -- what a space sent
-pub sent_is : (n : ℕ) (J : List Entry) (s : ℕ) → sent_by (books_of n J) s ≡ sent_of (all_gifts s n (deeds_at s J))
+pub sent_is : (n : ℕ) (J : List Entry) (s : ℕ) → sent_by (books_of n J) s ≡ sent_of (deeds_at s J) (all_gifts s n (deeds_at s J))
 sent_is n J s = ap sent_in (found_at n J s (spaces_in J)) ∙ by (is_in s (spaces_in J)) refl
   where
-    by : (t : Bool) → is_in s (spaces_in J) ≡ t → sent_in (cond (is_in s (spaces_in J)) (Some (ledger_at n J s)) None) ≡ sent_of (all_gifts s n (deeds_at s J))
+    by : (t : Bool) → is_in s (spaces_in J) ≡ t → sent_in (cond (is_in s (spaces_in J)) (Some (ledger_at n J s)) None) ≡ sent_of (deeds_at s J) (all_gifts s n (deeds_at s J))
     by true there = ap (λ (b : Bool). sent_in (cond b (Some (ledger_at n J s)) None)) there
     by false none =
         ap (λ (b : Bool). sent_in (cond b (Some (ledger_at n J s)) None)) none
-        ∙ sym (ap (λ (D : List Deed). sent_of (all_gifts s n D)) (no_deed s J none))
+        ∙ sym (ap (λ (D : List Deed). sent_of D (all_gifts s n D)) (no_deed s J none))
+
+-- what each space sent
+pub sent_same : (n : ℕ) (J : List Entry) → sent_by (books_of n J) ≡ (λ s. sent (history_at s n J))
+sent_same n J = λ i. λ s. sent_is n J s i

@@ -3,7 +3,7 @@ use Rattle.std.specs.Prelude.{ℕ, Bool, ◌&&◌, ◌||◌, not, ◌==◌, List
 use Rattle.std.specs.List.{list_any, list_all}
 use Rattle.nob_ids.specs.declared.wire_rep.WireRep.{WireRep}
 use Rattle.nob_model_types.specs.declared.entry.Entry.{Entry}
-use Rattle.nob_model_types.specs.Sessions.{closed}
+use Rattle.nob_model_types.specs.Sessions.{closed, number}
 use Rattle.nob_model_types.specs.Turns.{is_own}
 use Rattle.nob_model_types.specs.declared.deed.Deed.{Deed}
 use Rattle.nob_model_history.specs.declared.transit.SentItem.{SentItem}
@@ -42,13 +42,21 @@ sent_by books s = sent_in (find_ledger s books)
 abbrev pub closed_by : (ℕ → List Deed) → (a b : ℕ) → Bool
 closed_by did a b = closed b (did a)
 
--- whether it is open at both ends
+-- the number of the session with b in which a is
+abbrev pub number_by : (ℕ → List Deed) → (a b : ℕ) → ℕ
+number_by did a b = number b (did a)
+
+-- whether both are in one session, and it is open at both ends
 abbrev pub both_open_by : (ℕ → List Deed) → (a b : ℕ) → Bool
-both_open_by did a b = not (closed_by did a b) && not (closed_by did b a)
+both_open_by did a b = number_by did a b == number_by did b a && (not (closed_by did a b) && not (closed_by did b a))
 
 -- whether a space is the owner of a reference, or its session with the owner is open at both ends
 abbrev pub reaches_owner_by : (ℕ → List Deed) → ℕ → WireRep → Bool
 reaches_owner_by did c rep = is_own c rep || both_open_by did c rep.owner
+
+-- whether a space is the owner of a reference, or in session k with the owner
+abbrev pub is_with_owner_by : (ℕ → List Deed) → ℕ → WireRep → ℕ → Bool
+is_with_owner_by did a rep k = is_own a rep || k == number_by did a rep.owner
 
 -- whether no loan outstanding at any space is due that can be made
 abbrev pub have_loans_made : List Ledger → Bool

@@ -1,5 +1,5 @@
 -- What is tested of an entry by the ledgers of all spaces before it, and of all fronts at the end.
-use Rattle.std.specs.Prelude.{ℕ, Bool, true, ◌&&◌, ◌||◌, not, ◌==◌, List, [], ◌∷◌, Option, Some, None, map, filter, if◌then◌else◌}
+use Rattle.std.specs.Prelude.{ℕ, Bool, true, ◌&&◌, ◌||◌, not, ◌==◌, List, [], ◌∷◌, Option, Some, None, map, filter, find, if◌then◌else◌}
 use Rattle.std.specs.List.{list_any, list_all}
 use Rattle.nob_ids.specs.declared.wire_rep.WireRep.{WireRep}
 use Rattle.nob_item.specs.declared.item.Item.{Item}
@@ -7,16 +7,18 @@ use Rattle.nob_model_types.specs.Sessions.{item_at}
 use Rattle.nob_model_types.specs.Turns.{is_own, carries}
 use Rattle.nob_model_types.specs.declared.deed.Deed.{Deed}
 use Rattle.nob_model_types.specs.declared.deed.Deed.TheVariants.{Act, Withdraw}
-use Rattle.nob_model_history.specs.Transit.{is_settled}
+use Rattle.nob_model_history.specs.Transit.{is_settled, is_sent_to, owner_session}
 use Rattle.nob_model_history.specs.declared.transit.SentItem.{SentItem}
 use Rattle.nob_model.specs.Right.{own_ref}
-use Rattle.nob_model_journal.specs.Losses.{is_loss, sources}
-use Rattle.nob_model_journal.specs.Tests.{reps_at_risk, senders_in, same_item, is_front}
+use Rattle.nob_model_journal.specs.Losses.{is_loss, is_source, sources}
+use Rattle.nob_model_journal.specs.Tests.{reps_at_risk, sessions_in, same_item, is_front}
+use Rattle.nob_model_journal.specs.declared.losses.Source.{Source}
 use Rattle.nob_check_ledgers.specs.Ledgers.{is_held_by}
+use Rattle.nob_check_ledgers.specs.Sent.{place_of}
 use Rattle.nob_check_ledgers.specs.declared.sent.Place.{Place}
 use Rattle.nob_check_ledgers.specs.declared.lists.ActedItem.{ActedItem}
 use Rattle.nob_check_ledgers.specs.declared.ledger.Ledger.{Ledger}
-use Rattle.nob_check.specs.Books.{find_ledger, did_by, sent_by, both_open_by, reaches_owner_by}
+use Rattle.nob_check.specs.Books.{find_ledger, did_by, sent_by, number_by, both_open_by, reaches_owner_by, is_with_owner_by}
 
 -- ---- withdrawals
 
@@ -24,13 +26,17 @@ use Rattle.nob_check.specs.Books.{find_ledger, did_by, sent_by, both_open_by, re
 abbrev pub can_use_by : (ℕ → List Deed) → WireRep → Ledger → Bool
 can_use_by did rep ledger = is_held_by rep ledger && reaches_owner_by did ledger.index.here.space rep
 
--- whether what a ledger's space sent to a place isn't settled, on a session open at both ends, and the space reaches the owner of a reference
+-- whether the session of a place is the present one and open at both ends, and so is the one with the owner of a reference in which it was sent there, if space a isn't the owner
+abbrev pub is_open_for_by : (ℕ → List Deed) → ℕ → WireRep → Place → Bool
+is_open_for_by did a rep place = (place.session == number_by did a place.to && both_open_by did a place.to) && (is_with_owner_by did a rep place.with_owner && reaches_owner_by did a rep)
+
+-- whether what a ledger's space sent to a place isn't settled, and its sessions are open
 abbrev pub is_open_place_by : (ℕ → List Deed) → WireRep → Ledger → Place → Bool
-is_open_place_by did rep ledger place = not (is_settled place.to place.number ledger.index.deeds) && both_open_by did ledger.index.here.space place.to && reaches_owner_by did ledger.index.here.space rep
+is_open_place_by did rep ledger place = not (is_settled place.to place.number ledger.index.deeds) && is_open_for_by did ledger.index.here.space rep place
 
 -- whether what the space of a ledger sent carries a reference in open transit
 abbrev pub is_open_copy_by : (ℕ → List Deed) → WireRep → Ledger → SentItem → Bool
-is_open_copy_by did rep ledger sent_item = carries rep sent_item.item && not (is_settled sent_item.to sent_item.number ledger.index.deeds) && both_open_by did ledger.index.here.space sent_item.to && reaches_owner_by did ledger.index.here.space rep
+is_open_copy_by did rep ledger sent_item = carries rep sent_item.item && not (is_settled sent_item.to sent_item.number ledger.index.deeds) && is_open_for_by did ledger.index.here.space rep (place_of rep sent_item)
 
 -- whether the space of a ledger needs a reference
 abbrev pub needs_by : (ℕ → List Deed) → WireRep → Ledger → Bool
@@ -43,37 +49,50 @@ is_unneeded_by s _ books = true
 
 -- ---- losses
 
--- whether the loss of a reference at s is excused by a copy that came from a
-abbrev pub is_excuse_by : (ℕ → List Deed) → ℕ → WireRep → ℕ → Bool
-is_excuse_by did s rep a = not (is_own a rep) && not (both_open_by did a s && both_open_by did a rep.owner)
+-- whether the sender of a copy is still in the session with the owner in which it sent it, by the item that it sent, if it sent it
+abbrev pub was_with_owner_by : (ℕ → List Deed) → ℕ → WireRep → Option SentItem → Bool
+was_with_owner_by did a rep None = true
+was_with_owner_by did a rep (Some sent_item) = is_with_owner_by did a rep (owner_session rep sent_item)
+
+-- whether the session in which a copy came to space s is open, and so is the one with the owner in which it was sent, by what each space did and sent
+abbrev pub is_open_source_by : (ℕ → List Deed) → (ℕ → List SentItem) → ℕ → WireRep → Source → Bool
+is_open_source_by did sent s rep source = (source.session == number_by did source.from s && both_open_by did source.from s) && (was_with_owner_by did source.from rep (find (is_source s source) (sent source.from)) && both_open_by did source.from rep.owner)
+
+-- whether the loss of a reference at s is excused by a copy that came
+abbrev pub is_excuse_by : (ℕ → List Deed) → (ℕ → List SentItem) → ℕ → WireRep → Source → Bool
+is_excuse_by did sent s rep source = not (is_own source.from rep) && not (is_open_source_by did sent s rep source)
 
 -- whether a reference isn't lost where space s acts on item k from p after these deeds, or is with an excuse for each copy
-abbrev pub is_excused_by : (ℕ → List Deed) → (n s p k : ℕ) → List Deed → WireRep → Bool
-is_excused_by did n s p k D rep = not (is_loss s n p rep (item_at p k D) D) || list_all (is_excuse_by did s rep) (sources s n rep (Act p k ∷ D))
+abbrev pub is_excused_by : (ℕ → List Deed) → (ℕ → List SentItem) → (n s p k : ℕ) → List Deed → WireRep → Bool
+is_excused_by did sent n s p k D rep = not (is_loss s n p rep (item_at p k D) D) || list_all (is_excuse_by did sent s rep) (sources s n rep (Act p k ∷ D))
 
 -- whether each reference that is lost there is excused
-abbrev pub is_act_excused_by : (ℕ → List Deed) → (n s p k : ℕ) → List Deed → Bool
-is_act_excused_by did n s p k D = list_all (is_excused_by did n s p k D) (reps_at_risk p (item_at p k D))
+abbrev pub is_act_excused_by : (ℕ → List Deed) → (ℕ → List SentItem) → (n s p k : ℕ) → List Deed → Bool
+is_act_excused_by did sent n s p k D = list_all (is_excused_by did sent n s p k D) (reps_at_risk p (item_at p k D))
 
 -- whether each reference that is lost where the space of a ledger acts on item k from p is excused; without a ledger no item came
-abbrev pub is_lossless_in : (ℕ → List Deed) → (p k : ℕ) → Option Ledger → Bool
-is_lossless_in did p k None = true
-is_lossless_in did p k (Some ledger) = is_act_excused_by did ledger.index.here.n ledger.index.here.space p k ledger.index.deeds
+abbrev pub is_lossless_in : (ℕ → List Deed) → (ℕ → List SentItem) → (p k : ℕ) → Option Ledger → Bool
+is_lossless_in did sent p k None = true
+is_lossless_in did sent p k (Some ledger) = is_act_excused_by did sent ledger.index.here.n ledger.index.here.space p k ledger.index.deeds
 
 -- whether each reference that is lost by a deed of space s is excused
 abbrev pub is_lossless_by : ℕ → Option Deed → List Ledger → Bool
-is_lossless_by s (Some (Act p k)) books = is_lossless_in (did_by books) p k (find_ledger s books)
+is_lossless_by s (Some (Act p k)) books = is_lossless_in (did_by books) (sent_by books) p k (find_ledger s books)
 is_lossless_by s _ books = true
 
 -- ---- fronts
 
--- the items from a space among these that were acted on, with the numbers that were answered
-abbrev pub acted_from_by : ℕ → List ActedItem → List (ℕ × Option Item)
-acted_from_by a items = map (λ acted_item. (acted_item.number, acted_item.item)) (filter (λ acted_item. acted_item.from == a) items)
+-- whether an item that was acted on came from a space in session k
+abbrev pub is_acted_in : (a k : ℕ) → ActedItem → Bool
+is_acted_in a k acted_item = acted_item.from == a && acted_item.session == k
 
--- the items among these that went to a space
-abbrev pub items_to : ℕ → List SentItem → List Item
-items_to b sent_items = map (λ sent_item. sent_item.item) (filter (λ sent_item. sent_item.to == b) sent_items)
+-- the items from a space among these that were acted on in session k, with the numbers that were answered
+abbrev pub acted_from_by : (a k : ℕ) → List ActedItem → List (ℕ × Option Item)
+acted_from_by a k items = map (λ acted_item. (acted_item.number, acted_item.item)) (filter (is_acted_in a k) items)
+
+-- the items among these that went to a space in session k
+abbrev pub items_to : (b k : ℕ) → List SentItem → List Item
+items_to b k sent_items = map (λ sent_item. sent_item.item) (filter (is_sent_to b k) sent_items)
 
 -- what is left of these items behind the first, where that is the one that was acted on and has its number
 abbrev pub behind : ℕ → ℕ × Option Item → List Item → Option (List Item)
@@ -81,13 +100,13 @@ behind k (number, None) items = None
 behind k (number, Some item) [] = None
 behind k (number, Some item) (sent_item ∷ items) = if number == k && same_item item sent_item then Some items else None
 
--- whether what the space of a ledger acted on from a is a front of what a sent it
-abbrev pub is_in_order_by : (ℕ → List SentItem) → Ledger → ℕ → Bool
-is_in_order_by sent ledger a = is_front 1 (acted_from_by a ledger.acted_items) (items_to ledger.index.here.space (sent a))
+-- whether what the space of a ledger acted on in a session is a front of what was sent to it in that session
+abbrev pub is_in_order_by : (ℕ → List SentItem) → Ledger → ℕ × ℕ → Bool
+is_in_order_by sent ledger session = is_front 1 (acted_from_by session.0 session.1 ledger.acted_items) (items_to ledger.index.here.space session.1 (sent session.0))
 
 -- whether the fronts of the space of a ledger are as they should be
 abbrev pub has_fronts_by : (ℕ → List SentItem) → Ledger → Bool
-has_fronts_by sent ledger = list_all (is_in_order_by sent ledger) (senders_in ledger.index.deeds) && ledger.acts_open && ledger.sends_open
+has_fronts_by sent ledger = list_all (is_in_order_by sent ledger) (sessions_in ledger.index.deeds) && ledger.acts_open && ledger.sends_open
 
 -- whether all fronts are
 abbrev pub keeps_fronts_by : List Ledger → Bool

@@ -35,11 +35,23 @@ pub fn closed_at(space: SpaceId, peer: SpaceId, books: &[Ledger]) -> bool
     }
 }
 
-/// Whether the session of two spaces is open at both ends.
+/// The number of the session with a peer in which a space is.
+pub fn number_at(space: SpaceId, peer: SpaceId, books: &[Ledger]) -> u32
+    ensures { result ≡ words.number_by (words.did_by books.now) space peer }
+{
+    match find_ledger(space, books) {
+        Some(ledger) => ledger.index.number(peer),
+        None => 1,
+    }
+}
+
+/// Whether two spaces are in one session with each other, and it is open at both ends.
 pub fn both_open(space: SpaceId, other: SpaceId, books: &[Ledger]) -> bool
     ensures { result ≡ words.both_open_by (words.did_by books.now) space other }
 {
-    !closed_at(space, other, books) && !closed_at(other, space, books)
+    number_at(space, other, books) == number_at(other, space, books)
+        && !closed_at(space, other, books)
+        && !closed_at(other, space, books)
 }
 
 /// Whether a space is the owner of a reference, or its session with the owner is open at both ends.
@@ -47,6 +59,14 @@ pub fn reaches_owner(space: SpaceId, rep: &WireRep, books: &[Ledger]) -> bool
     ensures { result ≡ words.reaches_owner_by (words.did_by books.now) space rep.now }
 {
     rep.owner == space || both_open(space, rep.owner, books)
+}
+
+/// Whether a space is the owner of a reference, or in a session of this number with the owner.
+pub fn is_with_owner(space: SpaceId, rep: &WireRep, session: u32, books: &[Ledger]) -> bool
+    ensures { result
+        ≡ words.is_with_owner_by (words.did_by books.now) space rep.now session }
+{
+    rep.owner == space || session == number_at(space, rep.owner, books)
 }
 
 // Whether a space has a ledger.

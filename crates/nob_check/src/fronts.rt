@@ -63,16 +63,17 @@ fn copy_of(item: &Option<Item>) -> Result<Option<Item>, AllocError>
     }
 }
 
-// Items from a space with one more that was acted on, if it is from there too.
+// Items from a space in a session with one more that was acted on, if it is of that session too.
 fn with_acted(
     sender: SpaceId,
+    session: u32,
     acted_item: &ActedItem,
     mut items: Vec<(ItemNo, Option<Item>)>,
 ) -> Result<Vec<(ItemNo, Option<Item>)>, AllocError>
     ensures { IfOk result (λ more. more.items
-        ≡ items.items ++ words.acted_from_by sender (acted_item.now ∷ [])) }
+        ≡ items.items ++ words.acted_from_by sender session (acted_item.now ∷ [])) }
 {
-    if acted_item.from != sender {
+    if acted_item.from != sender || acted_item.session != session {
         return Ok(items);
     }
     let item = copy_of(&acted_item.item)?;
@@ -80,31 +81,35 @@ fn with_acted(
     Ok(items)
 }
 
-// The items from a space among these that were acted on, with the numbers that were answered.
+// The items from a space among these that were acted on in a session, with the numbers that were
+// answered.
 fn acted_from(
     alloc: Global,
     sender: SpaceId,
+    session: u32,
     acted_items: &[ActedItem],
 ) -> Result<Vec<(ItemNo, Option<Item>)>, AllocError>
-    ensures { IfOk result (λ items. items.items ≡ words.acted_from_by sender acted_items.now) }
+    ensures { IfOk result (λ items. items.items
+        ≡ words.acted_from_by sender session acted_items.now) }
 {
     let mut items = Vec::new(alloc);
     for acted_item in acted_items {
-        items = with_acted(sender, acted_item, items)?;
+        items = with_acted(sender, session, acted_item, items)?;
     }
     Ok(items)
 }
 
-// Items to a space with one more that was sent, if it went there too.
+// Items to a space in a session with one more that was sent, if it is of that session too.
 fn with_sent(
     receiver: SpaceId,
+    session: u32,
     sent_item: &SentItem,
     mut items: Vec<Item>,
 ) -> Result<Vec<Item>, AllocError>
     ensures { IfOk result (λ more. more.items
-        ≡ items.items ++ words.items_to receiver (sent_item.now ∷ [])) }
+        ≡ items.items ++ words.items_to receiver session (sent_item.now ∷ [])) }
 {
-    if sent_item.to != receiver {
+    if sent_item.to != receiver || sent_item.session != session {
         return Ok(items);
     }
     let item = sent_item.item.copy()?;
@@ -112,67 +117,72 @@ fn with_sent(
     Ok(items)
 }
 
-// The items among these that went to a space.
+// The items among these that went to a space in a session.
 fn items_to(
     alloc: Global,
     receiver: SpaceId,
+    session: u32,
     sent_items: &[SentItem],
 ) -> Result<Vec<Item>, AllocError>
-    ensures { IfOk result (λ items. items.items ≡ words.items_to receiver sent_items.now) }
+    ensures { IfOk result (λ items. items.items
+        ≡ words.items_to receiver session sent_items.now) }
 {
     let mut items = Vec::new(alloc);
     for sent_item in sent_items {
-        items = with_sent(receiver, sent_item, items)?;
+        items = with_sent(receiver, session, sent_item, items)?;
     }
     Ok(items)
 }
 
-// The items that a space sent to another, the first first.
-fn sent_to(
+// The items that a space sent to another in a session, the first first.
+fn sent_in(
     alloc: Global,
     sender: SpaceId,
     receiver: SpaceId,
+    session: u32,
     books: &[Ledger],
 ) -> Result<Vec<Item>, AllocError>
     ensures { IfOk result (λ items. items.items
-        ≡ words.items_to receiver (books_words.sent_by books.now sender)) }
+        ≡ words.items_to receiver session (books_words.sent_by books.now sender)) }
 {
     match find_ledger(sender, books) {
-        Some(ledger) => items_to(alloc, receiver, ledger.sent_items.as_slice()),
+        Some(ledger) => items_to(alloc, receiver, session, ledger.sent_items.as_slice()),
         None => Ok(Vec::new(alloc)),
     }
 }
 
-// Whether what the space of a ledger acted on from a sender is a front of what was sent to it.
+// Whether what the space of a ledger acted on in a session is a front of what was sent to it in
+// that session.
 fn is_in_order(
     alloc: Global,
     ledger: &Ledger,
-    sender: SpaceId,
+    session: (SpaceId, u32),
     books: &[Ledger],
 ) -> Result<bool, AllocError>
     ensures { IfOk result (λ answer. answer
-        ≡ words.is_in_order_by (books_words.sent_by books.now) ledger.now sender) }
+        ≡ words.is_in_order_by (books_words.sent_by books.now) ledger.now session) }
 {
-    let acted_on = acted_from(alloc, sender, ledger.acted_items.as_slice())?;
-    let items = sent_to(alloc, sender, ledger.index.here().space, books)?;
+    let (sender, number) = session;
+    let acted_on = acted_from(alloc, sender, number, ledger.acted_items.as_slice())?;
+    let items = sent_in(alloc, sender, ledger.index.here().space, number, books)?;
     Ok(is_front(acted_on.as_slice(), items.as_slice()))
 }
 
-// Whether what the space of a ledger acted on from each of these senders is a front of what was
-// sent to it.
+// Whether what the space of a ledger acted on in each of these sessions is a front of what was sent
+// to it in that session.
 fn are_in_order(
     alloc: Global,
     ledger: &Ledger,
-    senders: &[SpaceId],
+    sessions: &[(SpaceId, u32)],
     books: &[Ledger],
 ) -> Result<bool, AllocError>
     ensures { IfOk result (λ answer. answer
-        ≡ list_all (words.is_in_order_by (books_words.sent_by books.now) ledger.now) senders.now) }
+        ≡ list_all (words.is_in_order_by (books_words.sent_by books.now) ledger.now) sessions.now) }
 {
-    match senders {
+    match sessions {
         [] => Ok(true),
-        [sender, others @ ..] => {
-            if !is_in_order(alloc, ledger, *sender, books)? {
+        [session, others @ ..] => {
+            if !is_in_order(alloc, ledger, *session, books)? {
                 return Ok(false);
             }
             are_in_order(alloc, ledger, others, books)
@@ -180,12 +190,25 @@ fn are_in_order(
     }
 }
 
+// Whether what the space of a ledger acted on in each session is a front of what was sent to it.
+fn is_all_in_order(
+    alloc: Global,
+    ledger: &Ledger,
+    books: &[Ledger],
+) -> Result<bool, AllocError>
+    ensures { IfOk result (λ answer. answer
+        ≡ list_all (words.is_in_order_by (books_words.sent_by books.now) ledger.now)
+        (tests.sessions_in ledger.now.index.deeds)) }
+{
+    are_in_order(alloc, ledger, ledger.index.sessions(), books)
+}
+
 // Whether the fronts of the space of a ledger are as they should be.
 fn has_fronts(alloc: Global, ledger: &Ledger, books: &[Ledger]) -> Result<bool, AllocError>
     ensures { IfOk result (λ answer. answer
         ≡ words.has_fronts_by (books_words.sent_by books.now) ledger.now) }
 {
-    if !are_in_order(alloc, ledger, ledger.index.senders(), books)? {
+    if !is_all_in_order(alloc, ledger, books)? {
         return Ok(false);
     }
     Ok(ledger.acts_open && ledger.sends_open)
@@ -208,8 +231,8 @@ fn have_fronts(alloc: Global, ledgers: &[Ledger], books: &[Ledger]) -> Result<bo
 }
 
 /// Whether all fronts are as they should be, by the ledgers of all spaces. It compares each item
-/// that was acted on with the one that was sent, once; for each two spaces it passes what both sent
-/// and acted on.
+/// that was acted on with the one that was sent, once; for each session of two spaces it passes what
+/// both sent and acted on.
 pub fn keeps_fronts(alloc: Global, books: &[Ledger]) -> Result<bool, AllocError>
     ensures { IfOk result (λ answer. answer ≡ words.keeps_fronts_by books.now) }
 {

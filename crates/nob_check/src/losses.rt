@@ -1,19 +1,22 @@
 //! No reference is lost without a cause, and every reference is found.
 
-ghost use Rattle.std.specs.Prelude.{◌≡◌, ◌∷◌, IfOk, Some};
+ghost use Rattle.std.specs.Prelude.{◌≡◌, ◌∷◌, IfOk, Some, find};
 ghost use Rattle.std.specs.List.{list_all};
+ghost use Rattle.std.specs.Option.{option_map};
 ghost use Rattle.nob_model_types.specs.Sessions.{item_at};
-ghost use Rattle.nob_model_journal.specs.Losses.{sources};
+ghost use Rattle.nob_model_journal.specs.Losses.{is_source, sources};
 ghost use Rattle.nob_model_journal.specs.Findings as findings;
 ghost use Rattle.nob_model_journal.specs.Tests as tests;
 ghost use Rattle.nob_check.specs.Books as books_words;
 ghost use Rattle.nob_check.specs.Checks as words;
 
-use crate::books::{both_open, find_ledger};
+use crate::books::{both_open, find_ledger, is_with_owner, number_at};
 use nob_check_index::DeedIndex;
 use nob_check_ledgers::{Ledger, is_carried, is_loss};
 use nob_ids::{ItemNo, Reason, SpaceId, WireRep};
 use nob_item::Item;
+use nob_model_history::{SentItem, transit};
+use nob_model_journal::Source;
 use nob_model_types::{Answer, Deed, Refusal};
 use std::alloc::{AllocError, Global};
 
@@ -37,33 +40,117 @@ pub fn is_fault_found(response: &Result<Answer, Refusal>) -> bool
     }
 }
 
-// Whether the loss of a reference at a space is excused by a copy that came from this one.
-fn is_excuse(space: SpaceId, rep: &WireRep, source: SpaceId, books: &[Ledger]) -> bool
-    ensures { result ≡ words.is_excuse_by (books_words.did_by books.now) space rep.now source }
+// The item in which a copy came to a space, where its sender sent it.
+fn item_of<'a>(space: SpaceId, source: &Source, books: &'a [Ledger]) -> Option<&'a SentItem>
+    ensures { option_map (λ sent_item. sent_item.now) result
+        ≡ find (is_source space source.now)
+        (books_words.sent_by books.now source.now.from) }
 {
-    rep.owner != source && !(both_open(source, space, books) && both_open(source, rep.owner, books))
+    match find_ledger(source.from, books) {
+        Some(ledger) => ledger
+            .sent_items
+            .item(space, source.session, source.number),
+        None => None,
+    }
 }
 
-// Whether each of these sources excuses the loss of a reference at a space.
-fn are_excuses(space: SpaceId, rep: &WireRep, all: &[SpaceId], books: &[Ledger]) -> bool
-    ensures { result ≡ list_all (words.is_excuse_by (books_words.did_by books.now) space rep.now)
-        all.now }
+// Whether the sender of a copy is still in the session with the owner in which it sent it.
+fn was_with_owner(
+    alloc: Global,
+    space: SpaceId,
+    rep: &WireRep,
+    source: &Source,
+    books: &[Ledger],
+) -> Result<bool, AllocError>
+    ensures { IfOk result (λ answer. answer
+        ≡ words.was_with_owner_by (books_words.did_by books.now) source.now.from rep.now
+        (find (is_source space source.now)
+        (books_words.sent_by books.now source.now.from))) }
+{
+    match item_of(space, source, books) {
+        Some(sent_item) => {
+            let session = transit::owner_session(alloc, rep, sent_item)?;
+            Ok(is_with_owner(source.from, rep, session, books))
+        }
+        None => Ok(true),
+    }
+}
+
+// Whether the sessions in which a copy came to a space, and in which it was sent, are open.
+fn is_open_source(
+    alloc: Global,
+    space: SpaceId,
+    rep: &WireRep,
+    source: &Source,
+    books: &[Ledger],
+) -> Result<bool, AllocError>
+    ensures { IfOk result (λ answer. answer
+        ≡ words.is_open_source_by (books_words.did_by books.now) (books_words.sent_by books.now)
+        space rep.now source.now) }
+{
+    if source.session != number_at(source.from, space, books) {
+        return Ok(false);
+    }
+    if !both_open(source.from, space, books) {
+        return Ok(false);
+    }
+    if !was_with_owner(alloc, space, rep, source, books)? {
+        return Ok(false);
+    }
+    Ok(both_open(source.from, rep.owner, books))
+}
+
+// Whether the loss of a reference at a space is excused by a copy that came.
+fn is_excuse(
+    alloc: Global,
+    space: SpaceId,
+    rep: &WireRep,
+    source: &Source,
+    books: &[Ledger],
+) -> Result<bool, AllocError>
+    ensures { IfOk result (λ answer. answer
+        ≡ words.is_excuse_by (books_words.did_by books.now) (books_words.sent_by books.now)
+        space rep.now source.now) }
+{
+    if rep.owner == source.from {
+        return Ok(false);
+    }
+    Ok(!is_open_source(alloc, space, rep, source, books)?)
+}
+
+// Whether each of these copies excuses the loss of a reference at a space.
+fn are_excuses(
+    alloc: Global,
+    space: SpaceId,
+    rep: &WireRep,
+    all: &[Source],
+    books: &[Ledger],
+) -> Result<bool, AllocError>
+    ensures { IfOk result (λ answer. answer
+        ≡ list_all (words.is_excuse_by (books_words.did_by books.now)
+        (books_words.sent_by books.now) space rep.now) all.now) }
 {
     for source in all {
-        if !is_excuse(space, rep, *source, books) {
-            return false;
+        if !is_excuse(alloc, space, rep, source, books)? {
+            return Ok(false);
         }
     }
-    true
+    Ok(true)
 }
 
 // Whether each copy of a reference that came excuses its loss.
-fn are_all_excuses(past: &DeedIndex, rep: &WireRep, books: &[Ledger]) -> bool
-    ensures { result ≡ list_all (words.is_excuse_by
-        (books_words.did_by books.now) past.now.here.space rep.now)
-        (sources past.now.here.space past.now.here.n rep.now past.now.deeds) }
+fn are_all_excuses(
+    alloc: Global,
+    past: &DeedIndex,
+    rep: &WireRep,
+    books: &[Ledger],
+) -> Result<bool, AllocError>
+    ensures { IfOk result (λ answer. answer
+        ≡ list_all (words.is_excuse_by (books_words.did_by books.now)
+        (books_words.sent_by books.now) past.now.here.space rep.now)
+        (sources past.now.here.space past.now.here.n rep.now past.now.deeds)) }
 {
-    are_excuses(past.here().space, rep, past.sources(rep), books)
+    are_excuses(alloc, past.here().space, rep, past.sources(rep), books)
 }
 
 // Whether each copy of a reference that came excuses its loss, that of the item which is acted on
@@ -77,15 +164,21 @@ fn has_excuses(
     books: &[Ledger],
 ) -> Result<bool, AllocError>
     ensures { IfOk result (λ answer. answer
-        ≡ list_all (words.is_excuse_by (books_words.did_by books.now) past.now.here.space rep.now)
+        ≡ list_all (words.is_excuse_by (books_words.did_by books.now)
+        (books_words.sent_by books.now) past.now.here.space rep.now)
         (sources past.now.here.space past.now.here.n rep.now
         (Deed.Act from number ∷ past.now.deeds))) }
 {
-    let others = are_all_excuses(past, rep, books);
-    if is_carried(alloc, from, number, rep, past)? {
-        return Ok(is_excuse(past.here().space, rep, from, books) && others);
+    let others = are_all_excuses(alloc, past, rep, books)?;
+    if !is_carried(alloc, from, number, rep, past)? {
+        return Ok(others);
     }
-    Ok(others)
+    let source = Source {
+        from,
+        session: past.number(from),
+        number,
+    };
+    Ok(is_excuse(alloc, past.here().space, rep, &source, books)? && others)
 }
 
 // Whether a reference isn't lost where a space acts on an item, or is with an excuse for each copy.
@@ -98,8 +191,8 @@ fn is_excused(
     books: &[Ledger],
 ) -> Result<bool, AllocError>
     ensures { IfOk result (λ answer. answer
-        ≡ words.is_excused_by (books_words.did_by books.now) past.now.here.n past.now.here.space
-        from number past.now.deeds rep.now) }
+        ≡ words.is_excused_by (books_words.did_by books.now) (books_words.sent_by books.now)
+        past.now.here.n past.now.here.space from number past.now.deeds rep.now) }
 {
     if !is_loss(alloc, from, number, rep, past)? {
         return Ok(true);
@@ -117,8 +210,9 @@ fn are_excused(
     books: &[Ledger],
 ) -> Result<bool, AllocError>
     ensures { IfOk result (λ answer. answer
-        ≡ list_all (words.is_excused_by (books_words.did_by books.now) past.now.here.n
-        past.now.here.space from number past.now.deeds) reps.now) }
+        ≡ list_all (words.is_excused_by (books_words.did_by books.now)
+        (books_words.sent_by books.now) past.now.here.n past.now.here.space from number
+        past.now.deeds) reps.now) }
 {
     match reps {
         [] => Ok(true),
@@ -172,8 +266,8 @@ fn is_act_excused(
     books: &[Ledger],
 ) -> Result<bool, AllocError>
     ensures { IfOk result (λ answer. answer
-        ≡ words.is_act_excused_by (books_words.did_by books.now) past.now.here.n past.now.here.space
-        from number past.now.deeds) }
+        ≡ words.is_act_excused_by (books_words.did_by books.now) (books_words.sent_by books.now)
+        past.now.here.n past.now.here.space from number past.now.deeds) }
 {
     let reps = reps_at_risk(alloc, from, number, past)?;
     are_excused(alloc, from, number, past, reps.as_slice(), books)

@@ -5,22 +5,32 @@ ghost use Rattle.std.specs.List.{list_any, list_all};
 ghost use Rattle.nob_check.specs.Books as books_words;
 ghost use Rattle.nob_check.specs.Checks as words;
 
-use crate::books::{both_open, reaches_owner};
+use crate::books::{both_open, is_with_owner, number_at, reaches_owner};
 use nob_check_ledgers::{Ledger, Place, is_held};
 use nob_ids::{SpaceId, WireRep};
 use nob_model_types::Deed;
 use std::alloc::{AllocError, Global};
 
-// Whether what the space of a ledger sent to a place isn't settled, on a session that is open at
-// both ends, and the space reaches the owner of a reference.
+// Whether the sessions in which a space sent a reference to a place are open.
+fn is_open_for(sender: SpaceId, rep: &WireRep, place: &Place, books: &[Ledger]) -> bool
+    ensures { result ≡ words.is_open_for_by
+        (books_words.did_by books.now) sender rep.now place.now }
+{
+    if place.session != number_at(sender, place.to, books) {
+        return false;
+    }
+    both_open(sender, place.to, books)
+        && is_with_owner(sender, rep, place.with_owner, books)
+        && reaches_owner(sender, rep, books)
+}
+
+// Whether what the space of a ledger sent to a place isn't settled, and its sessions are open.
 fn is_open_place(rep: &WireRep, ledger: &Ledger, place: &Place, books: &[Ledger]) -> bool
     ensures { result ≡ words.is_open_place_by
         (books_words.did_by books.now) rep.now ledger.now place.now }
 {
-    let sender = ledger.index.here().space;
     !ledger.index.is_settled(place.to, place.number)
-        && both_open(sender, place.to, books)
-        && reaches_owner(sender, rep, books)
+        && is_open_for(ledger.index.here().space, rep, place, books)
 }
 
 // Whether one of these places is such a one.

@@ -8,7 +8,7 @@ pub use Rattle.nob_model_journal.specs.Tests
 pub mod Exports
 pub mod Counts
 pub mod Settlements
-pub mod Spaces
+pub mod ActedSessions
 pub mod Sources
 pub mod More
 pub mod Lookups

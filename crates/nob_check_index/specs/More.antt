@@ -6,7 +6,7 @@ use Rattle.nob_check_index.specs.Counts.{gains_of, gains_after, releases_of, rel
 use Rattle.nob_check_index.specs.Exports.{exports_of, exports_after, withdrawals_of, withdrawals_after}
 use Rattle.nob_check_index.specs.Settlements.{settlements_of, settlements_after}
 use Rattle.nob_check_index.specs.Sources.{sources_of, sources_after}
-use Rattle.nob_check_index.specs.Spaces.{senders_of, senders_after}
+use Rattle.nob_check_index.specs.ActedSessions.{sessions_of, sessions_after}
 use Rattle.nob_check_index.specs.declared.more.MoreTables.{MoreTables}
 
 -- the tables where nothing was done
@@ -14,7 +14,7 @@ abbrev pub no_more : MoreTables
 no_more = record {
   objects = record { exports = []; withdrawals = [] };
   hand = record { gains = []; releases = [] };
-  traffic = record { settlements = []; sources = []; senders = [] };
+  traffic = record { settlements = []; sources = []; sessions = [] };
 }
 
 -- the tables of space s, among n, that did this
@@ -22,7 +22,7 @@ abbrev pub more_of : (s n : ℕ) → List Deed → MoreTables
 more_of s n D = record {
   objects = record { exports = exports_of D; withdrawals = withdrawals_of D };
   hand = record { gains = gains_of D; releases = releases_of D };
-  traffic = record { settlements = settlements_of s n D; sources = sources_of s n D; senders = senders_of D };
+  traffic = record { settlements = settlements_of s n D; sources = sources_of s n D; sessions = sessions_of s n D };
 }
 
 -- the tables after a deed, by those of nob_check_tables before it
@@ -39,6 +39,6 @@ more_after deed tables more = record {
   traffic = record {
     settlements = settlements_after deed tables.came more.traffic.settlements;
     sources = sources_after deed tables more.traffic.sources;
-    senders = senders_after deed more.traffic.senders;
+    sessions = sessions_after deed tables more.traffic.sessions;
   };
 }

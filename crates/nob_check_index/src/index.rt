@@ -1,6 +1,6 @@
 //! What a space did, indexed.
 
-ghost use Rattle.std.specs.Prelude.{◌≡◌, ℕ, Bool, ◌∷◌, [], IfOk};
+ghost use Rattle.std.specs.Prelude.{◌≡◌, Bool, ◌∷◌, [], reverse, IfOk};
 ghost use Rattle.std.specs.List.{list_all};
 ghost use Rattle.std.specs.Option.{option_map};
 ghost use Rattle.nob_model_types.specs.Sessions as sessions;
@@ -10,12 +10,14 @@ ghost use Rattle.nob_model_history.specs.Holds as holds;
 ghost use Rattle.nob_model_history.specs.Transit as transit;
 ghost use Rattle.nob_model_journal.specs.Losses as losses;
 ghost use Rattle.nob_model_journal.specs.Tests as tests;
-ghost use Rattle.nob_check_index.specs.Spaces as spaces;
+ghost use Rattle.nob_check_index.specs.ActedSessions.{SessionTest};
+ghost use Rattle.nob_check_index.specs.Sources.{SourceTest};
 
 use crate::lists::Past;
 use crate::lookups::{Lookups, new_lookups, with_deed};
 use nob_ids::{ItemNo, SpaceId, WireRep};
 use nob_item::Item;
+use nob_model_journal::Source;
 use nob_model_types::{Deed, Here, Turns};
 use std::alloc::{AllocError, Global};
 use std::marker::Model;
@@ -106,6 +108,13 @@ impl DeedIndex {
         self.lookups.tables.closed.has(peer)
     }
 
+    /// The number of the session with a peer. Constant time on average.
+    pub fn number(&self, peer: SpaceId) -> u32
+        ensures { result ≡ sessions.number peer self.now.deeds }
+    {
+        self.lookups.tables.numbers.number(peer)
+    }
+
     /// An item from a peer, where its payload came and spells one. Constant time on average.
     pub fn item_at(&self, peer: SpaceId, number: ItemNo) -> Option<&Item>
         ensures { option_map (λ item. item.now) result
@@ -161,23 +170,25 @@ impl DeedIndex {
         self.lookups.more.traffic.settlements.has(peer, number)
     }
 
-    /// The spaces from which came the copies of a reference that were acted on since it was given
-    /// up last, each once: a test holds of all of them where it holds of the source of each copy.
-    /// Constant time on average.
-    pub fn sources(&self, rep: &WireRep) -> &[SpaceId]
-        ensures value { result.now ≡ spaces.each_once
+    /// The copies of a reference that were acted on since it was given up last, the first first:
+    /// who sent each, in which session, and in which item. Constant time on average.
+    pub fn sources(&self, rep: &WireRep) -> &[Source]
+        ensures value { result.now ≡ reverse
             (losses.sources self.now.here.space self.now.here.n rep.now self.now.deeds) }
-        ensures all { (test : ℕ → Bool) → list_all test result.now
+        ensures all { (test : SourceTest) → list_all test result.now
             ≡ list_all test (losses.sources self.now.here.space self.now.here.n rep.now
             self.now.deeds) }
     {
         self.lookups.more.traffic.sources.sources(rep)
     }
 
-    /// The spaces whose items were acted on, each once. Constant time.
-    pub fn senders(&self) -> &[SpaceId]
-        ensures { result.now ≡ tests.senders_in self.now.deeds }
+    /// The sessions in which items were acted on, each once, the first first: the peer, and the
+    /// number of the session with it. Constant time.
+    pub fn sessions(&self) -> &[(SpaceId, u32)]
+        ensures value { result.now ≡ reverse (tests.sessions_in self.now.deeds) }
+        ensures all { (test : SessionTest) → list_all test result.now
+            ≡ list_all test (tests.sessions_in self.now.deeds) }
     {
-        self.lookups.more.traffic.senders.as_slice()
+        self.lookups.more.traffic.sessions.as_slice()
     }
 }

@@ -2,6 +2,7 @@
 //! journal asks here in place of reading the deeds again.
 #![tactic(auto)]
 
+mod acted;
 mod counts;
 mod index;
 mod lists;
@@ -10,7 +11,6 @@ mod more;
 mod objects;
 mod settlements;
 mod sources;
-mod spaces;
 mod traffic;
 
 pub use index::DeedIndex;

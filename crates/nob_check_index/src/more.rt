@@ -17,7 +17,7 @@ pub struct MoreTables {
     pub objects: Objects,
     /// How often references came into the hand, and how often they were released.
     pub hand: HandCounts,
-    /// What the items that were acted on settled and carried, and who sent them.
+    /// What the items that were acted on settled and carried, and in which sessions.
     pub traffic: Traffic,
 }
 

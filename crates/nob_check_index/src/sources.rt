@@ -1,22 +1,76 @@
-//! From which spaces the copies of a reference came.
+//! Which copies of a reference came.
 
-ghost use Rattle.std.specs.Prelude.{◌≡◌, [], IfOk};
+ghost use Rattle.std.specs.Prelude.{◌≡◌, ◌∷◌, ◌++◌, [], IfOk};
+ghost use Rattle.std.specs.List.{list_any};
 ghost use Rattle.std.specs.Option.{option_map};
+ghost use Rattle.nob_ids.specs.Names.{is_same};
 ghost use Rattle.nob_check_index.specs.Sources as words;
 
-use crate::spaces::{Spaces, in_front, is_among};
 use indexmap::IndexMap;
 use nob_check_tables::Tables;
-use nob_ids::{SpaceId, WireRep};
+use nob_ids::WireRep;
 use nob_item::Item;
+use nob_model_journal::Source;
 use nob_model_types::Deed;
 use std::alloc::{AllocError, Global};
 use std::marker::Model;
 
-/// From which spaces the copies of each reference came since it was given up last. Contracts see
-/// the rows, in the order in which the references came.
+/// Copies that came, the first first. Contracts see the list.
+#[derive(Debug, Drop)]
+pub struct Sources {
+    copies: Vec<Source>,
+}
+
+impl Model for Sources {
+    ghost use Rattle.std.specs.Prelude.{List};
+    ghost use Rattle.nob_model_journal.specs.declared.losses.Source.{Source};
+
+    ghost Value = { List Source };
+
+    ghost view = { λ sources. sources.copies.items };
+}
+
+impl Sources {
+    /// None.
+    pub fn none(alloc: Global) -> Sources
+        ensures { result ≡ [] }
+    {
+        Sources {
+            copies: Vec::new(alloc),
+        }
+    }
+
+    /// The copies.
+    pub fn as_slice(&self) -> &[Source]
+        ensures { result.now ≡ self.now }
+    {
+        self.copies.as_slice()
+    }
+
+    // These and one more.
+    fn with_one(self, source: Source) -> Result<Sources, AllocError>
+        ensures { IfOk result (λ more. more ≡ self ++ source ∷ []) }
+    {
+        let Sources { mut copies } = self;
+        copies.push(source)?;
+        Ok(Sources { copies })
+    }
+}
+
+// These copies, none where there is no row.
+fn found_sources(alloc: Global, copies: Option<Sources>) -> Sources
+    ensures { result ≡ words.found_sources copies }
+{
+    match copies {
+        Some(copies) => copies,
+        None => Sources::none(alloc),
+    }
+}
+
+/// Which copies of each reference came since it was given up last. Contracts see the rows, in the
+/// order in which the references came.
 pub struct SourceRows {
-    map: IndexMap<WireRep, Spaces>,
+    map: IndexMap<WireRep, Sources>,
 }
 
 // By hand, so that the table is taken apart here alone and not at each end of each caller.
@@ -27,10 +81,11 @@ impl Drop for SourceRows {
 }
 
 impl Model for SourceRows {
-    ghost use Rattle.std.specs.Prelude.{ℕ, List};
+    ghost use Rattle.std.specs.Prelude.{List};
     ghost use Rattle.nob_ids.specs.declared.wire_rep.WireRep.{WireRep};
+    ghost use Rattle.nob_model_journal.specs.declared.losses.Source.{Source};
 
-    ghost Value = { List (WireRep × List ℕ) };
+    ghost Value = { List (WireRep × List Source) };
 
     ghost view = { λ rows. rows.map.entries };
 }
@@ -45,75 +100,95 @@ impl SourceRows {
         }
     }
 
-    /// From which spaces the copies of a reference came, each once. Constant time on average.
-    pub fn sources(&self, rep: &WireRep) -> &[SpaceId]
+    /// The copies of a reference. Constant time on average.
+    pub fn sources(&self, rep: &WireRep) -> &[Source]
         ensures { result.now ≡ words.sources_in rep.now self.now }
     {
         match self.map.get(rep) {
-            Some(spaces) => spaces.as_slice(),
+            Some(copies) => copies.as_slice(),
             None => &[],
         }
     }
 
-    // These with other sources of a reference.
-    fn with_sources(self, rep: WireRep, spaces: Spaces) -> Result<SourceRows, AllocError>
-        ensures { IfOk result (λ rows. rows ≡ words.with_sources rep spaces self) }
+    // The copies of a reference, and these without them.
+    fn taken(self, alloc: Global, rep: WireRep) -> Result<(Sources, SourceRows), AllocError>
+        ensures copies { IfOk result (λ taken. taken.0 ≡ words.sources_in rep self) }
+        ensures others { IfOk result (λ taken. taken.1 ≡ words.with_sources rep [] self) }
     {
         let SourceRows { mut map } = self;
-        map.insert(rep, spaces)?;
+        match map.insert(rep, Sources::none(alloc)) {
+            Ok(before) => Ok((found_sources(alloc, before), SourceRows { map })),
+            Err(_) => Err(AllocError),
+        }
+    }
+
+    // These with other copies of a reference.
+    fn with_sources(self, rep: WireRep, copies: Sources) -> Result<SourceRows, AllocError>
+        ensures { IfOk result (λ rows. rows ≡ words.with_sources rep copies self) }
+    {
+        let SourceRows { mut map } = self;
+        map.insert(rep, copies)?;
         Ok(SourceRows { map })
     }
 }
 
-// The rows once a copy of a reference came from a space.
+// The rows once a copy of a reference came.
+#[tactic(auto, using(crate::proofs::Copies::row_put))]
 fn with_source(
     alloc: Global,
-    from: SpaceId,
+    source: Source,
     rep: &WireRep,
     rows: SourceRows,
 ) -> Result<SourceRows, AllocError>
-    ensures { IfOk result (λ more. more ≡ words.with_source from rep.now rows) }
+    ensures { IfOk result (λ more. more ≡ words.with_source source rep.now rows) }
 {
-    let spaces = rows.sources(rep);
-    if is_among(from, spaces) {
-        return Ok(rows);
-    }
-    let more = in_front(alloc, from, spaces)?;
-    rows.with_sources(*rep, more)
+    let (before, others) = rows.taken(alloc, *rep)?;
+    let copies = before.with_one(source)?;
+    others.with_sources(*rep, copies)
 }
 
-// The rows once copies of some references came from a space: an item has few.
+// Whether a reference is among others.
+fn is_in(rep: &WireRep, others: &[WireRep]) -> bool
+    ensures { result ≡ list_any (is_same rep.now) others.now }
+{
+    others.iter().any(|other| *rep == *other)
+}
+
+// The rows once copies of some references came, of each of them one: an item has few.
 fn with_copies(
     alloc: Global,
-    from: SpaceId,
+    source: Source,
     reps: &[WireRep],
     rows: SourceRows,
 ) -> Result<SourceRows, AllocError>
-    ensures { IfOk result (λ more. more ≡ words.with_copies from reps.now rows) }
+    ensures { IfOk result (λ more. more ≡ words.with_copies source reps.now rows) }
 {
     match reps {
         [] => Ok(rows),
         [rep, others @ ..] => {
-            let more = with_source(alloc, from, rep, rows)?;
-            with_copies(alloc, from, others, more)
+            let more = with_copies(alloc, source, others, rows)?;
+            if is_in(rep, others) {
+                return Ok(more);
+            }
+            with_source(alloc, source, rep, more)
         }
     }
 }
 
-// The rows once an item from a space was acted on.
+// The rows once an item was acted on.
 fn with_item(
     alloc: Global,
-    from: SpaceId,
+    source: Source,
     item: Option<&Item>,
     rows: SourceRows,
 ) -> Result<SourceRows, AllocError>
-    ensures { IfOk result (λ more. more ≡ words.with_item from
+    ensures { IfOk result (λ more. more ≡ words.with_item source
         (option_map (λ found. found.now) item.entry) rows) }
 {
     match item {
         Some(item) => {
             let reps = nob_item::counted_refs(alloc, item)?;
-            with_copies(alloc, from, reps.as_slice(), rows)
+            with_copies(alloc, source, reps.as_slice(), rows)
         }
         None => Ok(rows),
     }
@@ -131,7 +206,7 @@ fn sources_with_clean(
     if !asks {
         return Ok(rows);
     }
-    rows.with_sources(*rep, Spaces::none(alloc))
+    rows.with_sources(*rep, Sources::none(alloc))
 }
 
 /// These after a deed, by the tables before it. Only memory fails it. It looks up the item that is
@@ -146,8 +221,13 @@ pub fn sources_after(
 {
     match deed {
         Deed::Act(from, number) => {
+            let source = Source {
+                from: *from,
+                session: tables.numbers.number(*from),
+                number: *number,
+            };
             let item = tables.came.item_at(*from, *number);
-            with_item(alloc, *from, item, rows)
+            with_item(alloc, source, item, rows)
         }
         Deed::Clean(rep) => sources_with_clean(alloc, rep, tables.rows.turns(rep).asks, rows),
         _ => Ok(rows),

@@ -77,7 +77,7 @@ copies_kept s n D (copy ∷ copies) all =
 
 message_kept : (s n : ℕ) (D : List Deed) (message : Message) → is_lent s n D message ≡ true → message_after s n D message ≡ message
 unfolding message_after
-message_kept s n D message lent = λ i. record { from = message.from; number = message.number; item = message.item; copies = copies_kept s n D message.copies lent i }
+message_kept s n D message lent = λ i. record { from = message.from; session = message.session; number = message.number; item = message.item; copies = copies_kept s n D message.copies lent i }
 
 messages_kept : (s n : ℕ) (D : List Deed) (messages : List Message) → list_all (is_lent s n D) messages ≡ true → map (λ message. message_after s n D message) messages ≡ messages
 messages_kept s n D [] all = refl

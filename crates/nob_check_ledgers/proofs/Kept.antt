@@ -19,7 +19,7 @@ pub ledger_kept : (s n : ℕ) (deed : Deed) (D : List Deed) → ledger_after dee
 ledger_kept s n deed D = λ i. record {
   index = record { here = record { space = s; n = n }; deeds = deed ∷ D };
   work = work s n (deed ∷ D);
-  sent_items = sent_of (all_gifts s n (deed ∷ D));
+  sent_items = sent_of (deed ∷ D) (all_gifts s n (deed ∷ D));
   acted_items = acted_items (deed ∷ D);
   acts_open = acts_kept deed D i;
   sends_open = sends_while_open (deed ∷ D) (all_gifts s n (deed ∷ D));

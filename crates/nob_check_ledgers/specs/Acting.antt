@@ -8,7 +8,7 @@ use Rattle.nob_model_types.specs.declared.message.Loan.{Loan}
 use Rattle.nob_model_types.specs.declared.message.Loan.TheVariants as loans
 use Rattle.nob_model_types.specs.declared.message.RefCopy.{RefCopy}
 use Rattle.nob_model_types.specs.declared.message.Message.{Message}
-use Rattle.nob_model_types.specs.Sessions.{item_at}
+use Rattle.nob_model_types.specs.Sessions.{number, item_at}
 use Rattle.nob_model_types.specs.Messages.{is_of, is_job, new_message, message_after}
 use Rattle.nob_model_work.specs.Work.{after_call, after_take, after_end, after_claim, after_finish, after_settle, after_close, after_message}
 use Rattle.nob_model_work.specs.declared.work.Outstanding.{Outstanding}
@@ -23,14 +23,14 @@ is_due_loan loans.Never = false
 abbrev pub is_due : RefCopy → Bool
 is_due copy = is_due_loan copy.loan
 
--- an item from p as a message of which no reference is looked at yet
-abbrev pub fresh_message : (p k : ℕ) → Option Item → Option Message
-fresh_message p k None = None
-fresh_message p k (Some item) = Some (record { from = p; number = k; item = item; copies = [] })
+-- an item from p that came in a session as a message of which no reference is looked at yet
+abbrev pub fresh_message : (p session k : ℕ) → Option Item → Option Message
+fresh_message p session k None = None
+fresh_message p session k (Some item) = Some (record { from = p; session = session; number = k; item = item; copies = [] })
 
 -- the item that a deed acts on, as such a message
 abbrev pub acted_on : Deed → List Deed → Option Message
-acted_on (Act p k) D = fresh_message p k (item_at p k D)
+acted_on (Act p k) D = fresh_message p (number p D) k (item_at p k D)
 acted_on (_) D = None
 
 -- what is outstanding once it is a message, by what was done

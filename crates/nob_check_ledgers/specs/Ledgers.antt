@@ -2,7 +2,7 @@
 use Rattle.std.specs.Prelude.{ℕ, ◌+◌, ◌-◌, Bool, ◌&&◌, not, ◌==◌, List, [], ◌∷◌, ◌++◌}
 use Rattle.std.specs.List.{list_all}
 use Rattle.nob_ids.specs.declared.wire_rep.WireRep.{WireRep}
-use Rattle.nob_model_types.specs.Sessions.{closed, item_at}
+use Rattle.nob_model_types.specs.Sessions.{closed, number, item_at}
 use Rattle.nob_model_types.specs.declared.deed.Deed.{Deed}
 use Rattle.nob_model_types.specs.declared.deed.Deed.TheVariants.{Act}
 use Rattle.nob_model_work.specs.Work.{work, work_after, with_loans}
@@ -18,7 +18,7 @@ use Rattle.nob_check_ledgers.specs.declared.ledger.Ledger.{Ledger}
 
 -- what was acted on after a deed, behind these
 abbrev pub acted_after : Deed → List Deed → List ActedItem → List ActedItem
-acted_after (Act p k) D items = items ++ record { from = p; number = k; item = item_at p k D } ∷ []
+acted_after (Act p k) D items = items ++ record { from = p; session = number p D; number = k; item = item_at p k D } ∷ []
 acted_after (_) D items = items
 
 -- what was acted on, the first first
@@ -45,7 +45,7 @@ abbrev pub ledger_of : (s n : ℕ) → List Deed → Ledger
 ledger_of s n D = record {
   index = record { here = record { space = s; n = n }; deeds = D };
   work = work s n D;
-  sent_items = sent_of (all_gifts s n D);
+  sent_items = sent_of D (all_gifts s n D);
   acted_items = acted_items D;
   acts_open = acts_while_open D;
   sends_open = sends_while_open D (all_gifts s n D);
@@ -60,7 +60,7 @@ abbrev pub ledger_with : Deed → List Gift → Ledger → Ledger
 ledger_with deed given ledger = record {
   index = record { here = ledger.index.here; deeds = deed ∷ ledger.index.deeds };
   work = work_with ledger.index.here.space ledger.index.here.n (deed ∷ ledger.index.deeds) ledger.work;
-  sent_items = with_gifts ledger.sent_items given;
+  sent_items = with_gifts ledger.index.deeds ledger.sent_items given;
   acted_items = acted_after deed ledger.index.deeds ledger.acted_items;
   acts_open = acts_open_after deed ledger.index.deeds ledger.acts_open;
   sends_open = are_open given ledger.index.deeds && ledger.sends_open;

@@ -1,8 +1,8 @@
 //! The ledger of a space, from one deed to the next.
 
-ghost use Rattle.std.specs.Prelude.{◌≡◌, ◌∷◌, ◌++◌, ◌+◌, [], IfOk, true};
+ghost use Rattle.std.specs.Prelude.{◌≡◌, [], IfOk, true};
 ghost use Rattle.nob_model_types.specs.Sessions.{item_at as item_word};
-ghost use Rattle.nob_model_history.specs.Transit.{count_to as count_word, with_gifts as with_gifts_word};
+ghost use Rattle.nob_model_history.specs.Transit.{with_gifts as with_gifts_word};
 ghost use Rattle.nob_check_ledgers.specs.Ledgers as words;
 
 use crate::giving::gifts;
@@ -47,25 +47,21 @@ pub fn new_ledger(alloc: Global, here: Here) -> Ledger
     }
 }
 
-// What was sent with one gift more.
-fn with_gift(alloc: Global, gift: &Gift, sent_items: SentItems) -> Result<SentItems, AllocError>
-    ensures { IfOk result (λ more. more ≡ sent_items ++ record
-        { to = gift.now.to; number = count_word gift.now.to sent_items + 1; item = gift.now.item } ∷
-        []) }
-{
-    let item = gift.item.copy()?;
-    sent_items.with_item(alloc, gift.to, item)
-}
-
 // What was sent with some gifts more: a deed gives few.
-fn with_gifts(alloc: Global, gifts: &[Gift], sent_items: SentItems) -> Result<SentItems, AllocError>
-    ensures { IfOk result (λ more. more ≡ with_gifts_word sent_items gifts.now) }
+fn with_gifts(
+    alloc: Global,
+    past: &DeedIndex,
+    gifts: &[Gift],
+    sent_items: SentItems,
+) -> Result<SentItems, AllocError>
+    ensures { IfOk result (λ more. more
+        ≡ with_gifts_word past.now.deeds sent_items gifts.now) }
 {
     match gifts {
         [] => Ok(sent_items),
         [gift, rest @ ..] => {
-            let more = with_gift(alloc, gift, sent_items)?;
-            with_gifts(alloc, rest, more)
+            let more = sent_items.with_gift(alloc, past, gift)?;
+            with_gifts(alloc, past, rest, more)
         }
     }
 }
@@ -104,6 +100,7 @@ fn acted_after(
             let mut items = acted_items.into_vec();
             items.push(ActedItem {
                 from: *from,
+                session: past.number(*from),
                 number: *number,
                 item,
             })?;
@@ -139,7 +136,7 @@ pub fn with_deed(alloc: Global, deed: Deed, ledger: Ledger) -> Result<Ledger, Al
     } = ledger;
     let given = gifts(alloc, &deed, &index, &work)?;
     let sends_open = are_open(given.as_slice(), &index) && sends_open;
-    let sent_items = with_gifts(alloc, given.as_slice(), sent_items)?;
+    let sent_items = with_gifts(alloc, &index, given.as_slice(), sent_items)?;
     let acts_open = acts_open_after(&deed, &index, acts_open);
     let acted_items = acted_after(&deed, &index, acted_items)?;
     let (index, work) = working::with_deed(alloc, deed, index, work)?;

@@ -83,6 +83,7 @@ pub fn new_message(alloc: Global, past: &DeedIndex, message: Message) -> Result<
 {
     let Message {
         from,
+        session: _,
         number,
         item,
         copies: _,
@@ -91,6 +92,7 @@ pub fn new_message(alloc: Global, past: &DeedIndex, message: Message) -> Result<
     let copies = List::from_vec(new_copies(alloc, past, reps.as_slice())?);
     Ok(Message {
         from,
+        session: past.number(from),
         number,
         item,
         copies,

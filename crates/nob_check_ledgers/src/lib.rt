@@ -12,6 +12,7 @@ mod lists;
 mod losses;
 mod making;
 mod sent;
+mod standing;
 mod working;
 
 pub use held::is_held;

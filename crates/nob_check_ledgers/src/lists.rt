@@ -10,6 +10,8 @@ use nob_item::Item;
 pub struct ActedItem {
     /// The space that sent it.
     pub from: SpaceId,
+    /// The number of the session in which it came.
+    pub session: u32,
     /// The number that was answered.
     pub number: ItemNo,
     /// The item, where its payload came and spells one.

@@ -1,27 +1,36 @@
-//! What a space sent, with tables of how much went to each peer and of where each reference was
-//! sent.
+//! What a space sent, with tables of how much went to each peer in each session, of where each
+//! reference was sent, and of where each item stands.
 
-ghost use Rattle.std.specs.Prelude.{◌≡◌, ◌∷◌, ◌++◌, ◌+◌, ◌&&◌, [], Bool, IfOk};
+ghost use Rattle.std.specs.Prelude.{◌≡◌, ◌∷◌, ◌++◌, ◌&&◌, [], find, IfOk};
 ghost use Rattle.std.specs.List.{list_any};
+ghost use Rattle.std.specs.Option.{option_map};
 ghost use Rattle.nob_item.specs.Kinds.{counted_in};
 ghost use Rattle.nob_model_types.specs.Turns.{carries};
-ghost use Rattle.nob_model_history.specs.Transit.{count_to as count_word};
+ghost use Rattle.nob_model_history.specs.Transit.{count_to as count_word, next_sent as next_word, owner_sessions as owners_word};
 ghost use Rattle.nob_check_ledgers.specs.Sent as words;
 
+use crate::standing::{ItemName, Standings};
 use indexmap::IndexMap;
+use nob_check_index::DeedIndex;
 use nob_ids::{ItemNo, SpaceId, WireRep};
 use nob_item::Item;
 use nob_model_history::SentItem;
+use nob_model_types::List;
+use nob_model_work::Gift;
 use std::alloc::{AllocError, Global};
 use std::marker::Model;
 
-/// Where an item was sent, and its number.
+/// Where an item was sent, and its number, for a reference that it carries.
 #[derive(Clone, Copy, Debug, PartialEq, Eq)]
 pub struct Place {
     /// The peer that it was sent to.
     pub to: SpaceId,
+    /// The number of the session with the peer.
+    pub session: u32,
     /// Its number.
     pub number: ItemNo,
+    /// The number of the session with the owner of the reference in which it was sent.
+    pub with_owner: u32,
 }
 
 /// Where items were sent, the first first. Contracts see the list.
@@ -76,10 +85,10 @@ fn found_places(alloc: Global, places: Option<Places>) -> Places
     }
 }
 
-/// How many items were sent to each peer. Contracts see the pairs, in the order in which the peers
-/// came.
+/// How many items were sent to each peer in each session. Contracts see the pairs, in the order in
+/// which the sessions came.
 pub struct SentCounts {
-    map: IndexMap<SpaceId, u64>,
+    map: IndexMap<(SpaceId, u32), u64>,
 }
 
 // By hand, so that the table is taken apart here alone and not at each end of each caller.
@@ -92,7 +101,7 @@ impl Drop for SentCounts {
 impl Model for SentCounts {
     ghost use Rattle.std.specs.Prelude.{ℕ, List};
 
-    ghost Value = { List (ℕ × ℕ) };
+    ghost Value = { List ((ℕ × ℕ) × ℕ) };
 
     ghost view = { λ counts. counts.map.entries };
 }
@@ -107,22 +116,22 @@ impl SentCounts {
         }
     }
 
-    /// How many items were sent to a peer. Constant time on average.
-    pub fn count(&self, peer: SpaceId) -> u64
-        ensures { result ≡ words.count_in peer self.now }
+    /// How many items were sent to a peer in a session. Constant time on average.
+    pub fn count(&self, peer: SpaceId, session: u32) -> u64
+        ensures { result ≡ words.count_in peer session self.now }
     {
-        match self.map.get(&peer) {
+        match self.map.get(&(peer, session)) {
             Some(count) => *count,
             None => 0,
         }
     }
 
-    // These with another count of a peer.
-    fn with_count(self, peer: SpaceId, count: u64) -> Result<SentCounts, AllocError>
-        ensures { IfOk result (λ more. more ≡ words.with_count peer count self) }
+    // These with another count of a session.
+    fn with_count(self, peer: SpaceId, session: u32, count: u64) -> Result<SentCounts, AllocError>
+        ensures { IfOk result (λ more. more ≡ words.with_count peer session count self) }
     {
         let SentCounts { mut map } = self;
-        map.insert(peer, count)?;
+        map.insert((peer, session), count)?;
         Ok(SentCounts { map })
     }
 }
@@ -207,22 +216,87 @@ fn with_place(
     others.with_places(*rep, places)
 }
 
+// Where a reference is sent by an item of this number after what was done.
+fn new_place(past: &DeedIndex, to: SpaceId, number: ItemNo, rep: &WireRep) -> Place
+    ensures { result ≡ words.new_place past.now.deeds to number rep.now }
+{
+    Place {
+        to,
+        session: past.number(to),
+        number,
+        with_owner: past.number(rep.owner),
+    }
+}
+
 // These once each of some references was sent to one place more: an item has few.
 fn with_all(
     alloc: Global,
+    past: &DeedIndex,
+    to: SpaceId,
+    number: ItemNo,
     reps: &[WireRep],
-    place: &Place,
     carriers: Carriers,
 ) -> Result<Carriers, AllocError>
-    ensures { IfOk result (λ more. more ≡ words.with_all reps.now place.now carriers) }
+    ensures { IfOk result (λ more. more
+        ≡ words.with_all past.now.deeds to number reps.now carriers) }
 {
     match reps {
         [] => Ok(carriers),
         [rep, others @ ..] => {
-            let more = with_place(alloc, rep, place, carriers)?;
-            with_all(alloc, others, place, more)
+            let place = new_place(past, to, number, rep);
+            let more = with_place(alloc, rep, &place, carriers)?;
+            with_all(alloc, past, to, number, others, more)
         }
     }
+}
+
+// The numbers of the sessions with the owners of some references.
+fn owner_sessions(
+    alloc: Global,
+    past: &DeedIndex,
+    reps: &[WireRep],
+) -> Result<Vec<u32>, AllocError>
+    ensures { IfOk result (λ owners. owners.items ≡ owners_word past.now.deeds reps.now) }
+{
+    reps.iter()
+        .map(|rep| past.number(rep.owner))
+        .collect(alloc)
+}
+
+// These once each reference of a gift was sent by the item of this number.
+fn with_places(
+    alloc: Global,
+    past: &DeedIndex,
+    gift: &Gift,
+    count: u64,
+    carriers: Carriers,
+) -> Result<Carriers, AllocError>
+    ensures { IfOk result (λ more. more
+        ≡ words.with_all past.now.deeds gift.now.to count (counted_in gift.now.item) carriers) }
+{
+    let reps = nob_item::counted_refs(alloc, &gift.item)?;
+    with_all(alloc, past, gift.to, ItemNo::new(count), reps.as_slice(), carriers)
+}
+
+// What is sent as a gift under this number after what was done.
+fn next_item(
+    alloc: Global,
+    past: &DeedIndex,
+    gift: &Gift,
+    count: u64,
+) -> Result<SentItem, AllocError>
+    ensures { IfOk result (λ next. next ≡ words.item_by past.now.deeds gift.now count) }
+{
+    let reps = nob_item::counted_refs(alloc, &gift.item)?;
+    let owners = owner_sessions(alloc, past, reps.as_slice())?;
+    let item = gift.item.copy()?;
+    Ok(SentItem {
+        to: gift.to,
+        session: past.number(gift.to),
+        number: ItemNo::new(count),
+        item,
+        owners: List::from_vec(owners),
+    })
 }
 
 /// What a space sent, with the numbers, the first first. Contracts see the list.
@@ -230,6 +304,7 @@ pub struct SentItems {
     sent_items: Vec<SentItem>,
     counts: SentCounts,
     carriers: Carriers,
+    standings: Standings,
 }
 
 // By hand, so that the tables are taken apart here alone and not at each end of each caller.
@@ -239,6 +314,7 @@ impl Drop for SentItems {
             sent_items: _,
             counts: _,
             carriers: _,
+            standings: _,
         } = self;
     }
 }
@@ -259,7 +335,7 @@ impl Model for SentItems {
 
     // The tables are those of the items.
     ghost invariant = { λ sent_items. Tell sent_items.counts sent_items.carriers
-        sent_items.sent_items.items };
+        sent_items.standings sent_items.sent_items.items };
 }
 
 impl SentItems {
@@ -271,10 +347,12 @@ impl SentItems {
         let sent_items = Vec::new(alloc);
         let counts = SentCounts::none(alloc);
         let carriers = Carriers::none(alloc);
+        let standings = Standings::none(alloc);
         SentItems {
             sent_items,
             counts,
             carriers,
+            standings,
         }
     }
 
@@ -285,11 +363,11 @@ impl SentItems {
         self.sent_items.as_slice()
     }
 
-    /// How many items were sent to a peer. Constant time on average.
-    pub fn count_to(&self, peer: SpaceId) -> u64
-        ensures { result ≡ count_word peer self.now }
+    /// How many items were sent to a peer in a session. Constant time on average.
+    pub fn count_to(&self, peer: SpaceId, session: u32) -> u64
+        ensures { result ≡ count_word peer session self.now }
     {
-        self.counts.count(peer)
+        self.counts.count(peer, session)
     }
 
     /// Where a reference was sent: a test holds of one of these places where it holds of that of an
@@ -297,36 +375,61 @@ impl SentItems {
     pub fn places(&self, rep: &WireRep) -> &[Place]
         ensures { (test : words.PlaceTest)
             → list_any test result.now ≡ list_any
-            (λ sent_item. carries rep.now sent_item.item && test (words.place_of sent_item))
+            (λ sent_item. carries rep.now sent_item.item && test (words.place_of rep.now sent_item))
             self.now }
     {
         self.carriers.places(rep)
     }
 
-    /// These with one item more to a peer, under the next number. Only memory fails it: no journal
-    /// has so many items that they can't be counted. It looks up each reference of the item.
-    pub fn with_item(self, alloc: Global, to: SpaceId, item: Item) -> Result<SentItems, AllocError>
+    /// The item of a number that was sent to a peer in a session, where there is one. Constant time
+    /// on average.
+    pub fn item(&self, to: SpaceId, session: u32, number: ItemNo) -> Option<&SentItem>
+        ensures { option_map (λ sent_item. sent_item.now) result
+            ≡ find (words.is_item to session number) self.now }
+    {
+        match self.standings.place(to, session, number) {
+            Some(place) => self.sent_items.as_slice().get(place),
+            None => None,
+        }
+    }
+
+    /// These with one gift more, in the present sessions with the peer and with the owners of its
+    /// references, under the next number of its session. Only memory fails it: no journal has so many
+    /// items that they can't be counted. It looks up each reference of the item.
+    pub fn with_gift(
+        self,
+        alloc: Global,
+        past: &DeedIndex,
+        gift: &Gift,
+    ) -> Result<SentItems, AllocError>
         ensures { IfOk result (λ more. more
-            ≡ self ++ record { to = to; number = count_word to self + 1; item = item } ∷ []) }
+            ≡ self ++ next_word past.now.deeds self gift.now ∷ []) }
     {
         let SentItems {
             mut sent_items,
             counts,
             carriers,
+            standings,
         } = self;
-        let Some(count) = counts.count(to).checked_add(1) else {
+        let session = past.number(gift.to);
+        let Some(count) = counts.count(gift.to, session).checked_add(1) else {
             return Err(AllocError);
         };
-        let number = ItemNo::new(count);
-        let reps = nob_item::counted_refs(alloc, &item)?;
-        let place = Place { to, number };
-        let carriers = with_all(alloc, reps.as_slice(), &place, carriers)?;
-        let counts = counts.with_count(to, count)?;
-        sent_items.push(SentItem { to, number, item })?;
+        let carriers = with_places(alloc, past, gift, count, carriers)?;
+        let counts = counts.with_count(gift.to, session, count)?;
+        let name = ItemName {
+            to: gift.to,
+            session,
+            number: count,
+        };
+        let standings = standings.with_standing(name, sent_items.len())?;
+        let item = next_item(alloc, past, gift, count)?;
+        sent_items.push(item)?;
         Ok(SentItems {
             sent_items,
             counts,
             carriers,
+            standings,
         })
     }
 }

@@ -1,7 +1,7 @@
 //! What a space did and has outstanding, from one deed to the next.
 
 ghost use Rattle.std.specs.Prelude.{◌≡◌, ◌∷◌, [], IfOk, true, find};
-ghost use Rattle.nob_model_types.specs.Sessions.{item_at};
+ghost use Rattle.nob_model_types.specs.Sessions.{number as number_word, item_at};
 ghost use Rattle.nob_model_types.specs.Messages.{is_of};
 ghost use Rattle.nob_model_work.specs.Work as words;
 ghost use Rattle.nob_check_ledgers.specs.Acting as acting;
@@ -25,16 +25,24 @@ use std::alloc::{AllocError, Global};
 fn fresh_message(
     alloc: Global,
     from: SpaceId,
+    session: u32,
     number: ItemNo,
     item: &Item,
 ) -> Result<Message, AllocError>
     ensures { IfOk result (λ message. message
-        ≡ record { from = from; number = number; item = item.now; copies = [] }) }
+        ≡ record {
+          from = from;
+          session = session;
+          number = number;
+          item = item.now;
+          copies = [];
+        }) }
 {
     let item = item.copy()?;
     let copies = List::from_vec(Vec::new(alloc));
     Ok(Message {
         from,
+        session,
         number,
         item,
         copies,
@@ -49,10 +57,12 @@ fn message_at(
     past: &DeedIndex,
 ) -> Result<Option<Message>, AllocError>
     ensures { IfOk result (λ message. message
-        ≡ acting.fresh_message from number (item_at from number past.now.deeds)) }
+        ≡ acting.fresh_message from (number_word from past.now.deeds) number
+        (item_at from number past.now.deeds)) }
 {
+    let session = past.number(from);
     match past.item_at(from, number) {
-        Some(item) => Ok(Some(fresh_message(alloc, from, number, item)?)),
+        Some(item) => Ok(Some(fresh_message(alloc, from, session, number, item)?)),
         None => Ok(None),
     }
 }

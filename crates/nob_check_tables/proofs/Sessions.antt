@@ -1,4 +1,4 @@
--- The tables say which sessions have closed and which items came.
+-- The tables say which numbers the sessions have, which have closed, and which items came.
 use Rattle.std.proofs.Common.{◌≡◌, ◌+◌, ◌&&◌, ◌||◌, not, ℕ, Bool, true, false, cond, List, [], ◌∷◌, Option, Some, None, is_some, refl, sym, ap, subst, true≢false, ◌∙◌}
 use Rattle.std.specs.Prelude.{◌==◌, option_and_then}
 use Rattle.std.specs.Map.{lookup}
@@ -12,9 +12,9 @@ use Rattle.nob_item.specs.declared.item.Item.{Item}
 use Rattle.nob_model_session.specs.End.{brings_at}
 use Rattle.nob_model_types.specs.declared.deed.Deed.{Deed}
 use Rattle.nob_model_types.specs.declared.deed.Deed.TheVariants.{Arrive, Closing}
-use Rattle.nob_model_types.specs.Sessions.{closed, is_from, accepted_from, payload_at, item_spelt, item_at}
+use Rattle.nob_model_types.specs.Sessions.{closed, number, is_from, accepted_from, payload_at, item_spelt, item_at}
 use Rattle.nob_check_tables.specs.Closed.{is_among, with_peer}
-use Rattle.nob_model_history.proofs.Sessions.{number_first}
+use Rattle.nob_check_tables.specs.Numbers.{number_in}
 use Rattle.nob_check_tables.specs.Taken.{is_present, found_count, taken_from, with_taken}
 use Rattle.nob_check_tables.specs.Came.{is_same_arrival, found_item, came_at, item_in, with_item, with_frame}
 use Rattle.nob_check_tables.specs.Tables.{tables_of}
@@ -22,6 +22,11 @@ use Rattle.nob_check_tables.specs.declared.came.Arrival.{Arrival}
 use Rattle.nob_check_tables.proofs.Looking.{put_at}
 
 -- ---- sessions
+
+-- the number of the session with p
+pub number_is : (s n p : ℕ) (D : List Deed) → number_in p (tables_of s n D).numbers ≡ number p D
+number_is s n p [] = refl
+number_is s n p (_ ∷ D) = number_is s n p D
 
 among_with : (p q : ℕ) (peers : List ℕ) → is_among p (with_peer q peers) ≡ ((q == p) || is_among p peers)
 among_with p q peers = by (is_among q peers) refl
@@ -55,15 +60,19 @@ taken_with p q count taken =
     by false = refl
 
 -- the test of the tables is that of the words
-present_is : (p : ℕ) (frame : Frame) (D : List Deed) → is_from p frame D ≡ (frame.from == p && is_present frame)
-present_is p frame D = ap (λ (k : ℕ). frame.from == p && frame.session == k) (number_first p D)
+present_is : (s n p : ℕ) (frame : Frame) (D : List Deed) → is_from p frame D ≡ (frame.from == p && is_present frame (tables_of s n D).numbers)
+present_is s n p frame D = by (frame.from == p) refl
+  where
+    by : (b : Bool) → frame.from == p ≡ b → (b && frame.session == number p D) ≡ (b && is_present frame (tables_of s n D).numbers)
+    by true same = ap (λ (k : ℕ). frame.session == k) (sym (number_is s n p D)) ∙ ap (λ (q : ℕ). frame.session == number_in q (tables_of s n D).numbers) (sym (eqb-true frame.from p same))
+    by false other = refl
 
 -- how many items of p were accepted
 pub taken_is : (s n p : ℕ) (D : List Deed) → taken_from p (tables_of s n D).taken ≡ accepted_from p D
 taken_is s n p [] = refl
 taken_is s n p (Arrive frame count ∷ D) =
-    by (is_present frame) (frame.from == p) (p == frame.from) refl refl (taken_is s n p D)
-    ∙ sym (ap (λ (b : Bool). cond b (count + accepted_from p D) (accepted_from p D)) (present_is p frame D))
+    by (is_present frame (tables_of s n D).numbers) (frame.from == p) (p == frame.from) refl refl (taken_is s n p D)
+    ∙ sym (ap (λ (b : Bool). cond b (count + accepted_from p D) (accepted_from p D)) (present_is s n p frame D))
   where
     taken : List (ℕ × ℕ)
     taken = (tables_of s n D).taken
@@ -234,8 +243,8 @@ came_if true s n p k frame D =
 came_if false s n p k frame D = sym (or_none (came_at p k (tables_of s n D).came))
 
 -- a frame of the session with p brings item k from p, as the words say
-brought_is : (p k : ℕ) (frame : Frame) (D : List Deed) → (is_present frame && brings p k frame D) ≡ (is_from p frame D && brings_at k frame (accepted_from p D))
-brought_is p k frame D = turned (frame.from == p) (is_present frame) (brings_at k frame (accepted_from p D)) ∙ sym (ap (λ (b : Bool). b && brings_at k frame (accepted_from p D)) (present_is p frame D))
+brought_is : (s n p k : ℕ) (frame : Frame) (D : List Deed) → (is_present frame (tables_of s n D).numbers && brings p k frame D) ≡ (is_from p frame D && brings_at k frame (accepted_from p D))
+brought_is s n p k frame D = turned (frame.from == p) (is_present frame (tables_of s n D).numbers) (brings_at k frame (accepted_from p D)) ∙ sym (ap (λ (b : Bool). b && brings_at k frame (accepted_from p D)) (present_is s n p frame D))
   where
     turned : (a b c : Bool) → (b && (a && c)) ≡ ((a && b) && c)
     turned true true c = refl
@@ -248,8 +257,8 @@ came_is : (s n p k : ℕ) (D : List Deed) → came_at p k (tables_of s n D).came
 came_is s n p k [] = refl
 came_is s n p k (Arrive frame count ∷ D) =
     let test : Bool = is_from p frame D && brings_at k frame (accepted_from p D) in
-    came_if (is_present frame) s n p k frame D
-    ∙ ap (λ (b : Bool). option_or (came_at p k (tables_of s n D).came) (cond b (Some (item_spelt frame.payload)) None)) (brought_is p k frame D)
+    came_if (is_present frame (tables_of s n D).numbers) s n p k frame D
+    ∙ ap (λ (b : Bool). option_or (came_at p k (tables_of s n D).came) (cond b (Some (item_spelt frame.payload)) None)) (brought_is s n p k frame D)
     ∙ ap (λ (x : Option (Option Item)). option_or x (cond test (Some (item_spelt frame.payload)) None)) (came_is s n p k D)
     ∙ spelt_or (payload_at p k D) test frame.payload
 came_is s n p k (_ ∷ D) = came_is s n p k D

@@ -21,7 +21,7 @@ use Rattle.nob_check_tables.specs.Rows.{found_turns, turns_in, with_turns, wants
 use Rattle.nob_check_tables.specs.Tables.{tables_of}
 use Rattle.nob_check_tables.specs.Laws.{TablesLaw}
 use Rattle.nob_check_tables.proofs.Looking.{put_at}
-use Rattle.nob_check_tables.proofs.Sessions.{closed_is, taken_is, item_is}
+use Rattle.nob_check_tables.proofs.Sessions.{number_is, closed_is, taken_is, item_is}
 
 found_if : (b : Bool) (t : Turns) (x : Option Turns) → found_turns (cond b (Some t) x) ≡ cond b t (found_turns x)
 found_if true t x = refl
@@ -138,4 +138,4 @@ turns_are s n r (_ ∷ D) = turns_are s n r D
 
 -- the tables say what was done
 pub tables_law : TablesLaw
-tables_law s n D = record { closes = λ p. closed_is s n p D; taken = λ p. taken_is s n p D; came = λ p k. item_is s n p k D; asked = λ rep. turns_are s n rep D }
+tables_law s n D = record { numbered = λ p. number_is s n p D; closes = λ p. closed_is s n p D; taken = λ p. taken_is s n p D; came = λ p k. item_is s n p k D; asked = λ rep. turns_are s n rep D }

@@ -36,7 +36,7 @@ with_item arrival item came = insert_entry is_same_arrival came arrival item
 abbrev pub with_frame : Frame → (accepted : ℕ) → List (Arrival × Option Item) → List (Arrival × Option Item)
 with_frame frame accepted came = if not (brings_at frame.seq frame accepted) then came else if is_some (came_at frame.from frame.seq came) then came else with_item (record { from = frame.from; number = frame.seq }) (item_spelt frame.payload) came
 
--- what came, after a deed, where so many items of each peer were accepted before: a frame of another session brings nothing
-abbrev pub came_after : Deed → (taken : List (ℕ × ℕ)) → List (Arrival × Option Item) → List (Arrival × Option Item)
-came_after (Arrive frame count) taken came = if is_present frame then with_frame frame (taken_from frame.from taken) came else came
-came_after (_) taken came = came
+-- what came, after a deed, where the sessions had these numbers and so many items of each peer were accepted before: a frame of another session brings nothing
+abbrev pub came_after : Deed → (numbers taken : List (ℕ × ℕ)) → List (Arrival × Option Item) → List (Arrival × Option Item)
+came_after (Arrive frame count) numbers taken came = if is_present frame numbers then with_frame frame (taken_from frame.from taken) came else came
+came_after (_) numbers taken came = came

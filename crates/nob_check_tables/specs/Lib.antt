@@ -1,6 +1,7 @@
 pub use Rattle.nob_model_types.specs.Sessions
 pub use Rattle.nob_model_types.specs.Turns
 pub mod Closed
+pub mod Numbers
 pub mod Taken
 pub mod Came
 pub mod Rows

@@ -5,6 +5,7 @@ use Rattle.indexmap.specs.IndexMap.{insert_entry}
 use Rattle.nob_frame.specs.declared.frame.Frame.{Frame}
 use Rattle.nob_model_types.specs.declared.deed.Deed.{Deed}
 use Rattle.nob_model_types.specs.declared.deed.Deed.TheVariants.{Arrive}
+use Rattle.nob_check_tables.specs.Numbers.{number_in}
 
 -- the count that was found, 0 where there is none
 abbrev pub found_count : Option ℕ → ℕ
@@ -15,15 +16,15 @@ found_count (Some count) = count
 abbrev pub taken_from : ℕ → List (ℕ × ℕ) → ℕ
 taken_from p taken = found_count (lookup (λ other. p == other) taken)
 
--- whether a frame is of the session with its sender: no deed opens one anew, so it is the first
-abbrev pub is_present : Frame → Bool
-is_present frame = frame.session == 1
+-- whether a frame is of the session with its sender, by the numbers of the sessions
+abbrev pub is_present : Frame → (numbers : List (ℕ × ℕ)) → Bool
+is_present frame numbers = frame.session == number_in frame.from numbers
 
 -- the counts once a frame took so many items
 abbrev pub with_taken : Frame → ℕ → List (ℕ × ℕ) → List (ℕ × ℕ)
 with_taken frame count taken = insert_entry (λ q other. q == other) taken frame.from (count + taken_from frame.from taken)
 
 -- the counts, after a deed: a frame of another session counts for nothing
-abbrev pub taken_after : Deed → List (ℕ × ℕ) → List (ℕ × ℕ)
-taken_after (Arrive frame count) taken = if is_present frame then with_taken frame count taken else taken
-taken_after (_) taken = taken
+abbrev pub taken_after : Deed → (numbers : List (ℕ × ℕ)) → List (ℕ × ℕ) → List (ℕ × ℕ)
+taken_after (Arrive frame count) numbers taken = if is_present frame numbers then with_taken frame count taken else taken
+taken_after (_) numbers taken = taken

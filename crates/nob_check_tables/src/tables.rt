@@ -7,6 +7,7 @@ ghost use Rattle.nob_check_tables.specs.Tables as words;
 
 use crate::came::Came;
 use crate::closed::Closed;
+use crate::numbers::SessionNumbers;
 use crate::rows::{TurnRows, rows_with_clean, with_item};
 use crate::taken::{Taken, is_present};
 use nob_ids::{ItemNo, SpaceId};
@@ -18,6 +19,8 @@ use std::alloc::{AllocError, Global};
 pub struct Tables {
     /// The space, and among how many.
     pub here: Here,
+    /// The number of the session with each peer.
+    pub numbers: SessionNumbers,
     /// Which sessions have closed.
     pub closed: Closed,
     /// How many items of each peer were accepted.
@@ -34,6 +37,7 @@ pub fn new_tables(alloc: Global, here: Here) -> Tables
 {
     Tables {
         here,
+        numbers: SessionNumbers::none(alloc),
         closed: Closed::none(alloc),
         taken: Taken::none(alloc),
         came: Came::none(alloc),
@@ -62,12 +66,13 @@ fn with_act(
 }
 
 /// The tables after a deed. Only memory fails it. It looks up the item that is acted on and each
-/// reference in it, and the peer whose session closes.
+/// reference in it, the peer whose session closes, and that of a frame.
 pub fn with_deed(alloc: Global, deed: &Deed, tables: Tables) -> Result<Tables, AllocError>
     ensures { IfOk result (λ after. after ≡ words.tables_after deed.now tables) }
 {
     let Tables {
         here,
+        numbers,
         closed,
         taken,
         came,
@@ -78,6 +83,7 @@ pub fn with_deed(alloc: Global, deed: &Deed, tables: Tables) -> Result<Tables, A
             let rows = with_act(alloc, &here, *from, *number, &came, &closed, rows)?;
             Ok(Tables {
                 here,
+                numbers,
                 closed,
                 taken,
                 came,
@@ -88,6 +94,7 @@ pub fn with_deed(alloc: Global, deed: &Deed, tables: Tables) -> Result<Tables, A
             let rows = rows_with_clean(rep, rows)?;
             Ok(Tables {
                 here,
+                numbers,
                 closed,
                 taken,
                 came,
@@ -95,9 +102,10 @@ pub fn with_deed(alloc: Global, deed: &Deed, tables: Tables) -> Result<Tables, A
             })
         }
         Deed::Arrive(frame, count) => {
-            if !is_present(frame) {
+            if !is_present(frame, &numbers) {
                 return Ok(Tables {
                     here,
+                    numbers,
                     closed,
                     taken,
                     came,
@@ -108,6 +116,7 @@ pub fn with_deed(alloc: Global, deed: &Deed, tables: Tables) -> Result<Tables, A
             let taken = taken.with_taken(frame, *count)?;
             Ok(Tables {
                 here,
+                numbers,
                 closed,
                 taken,
                 came,
@@ -118,6 +127,7 @@ pub fn with_deed(alloc: Global, deed: &Deed, tables: Tables) -> Result<Tables, A
             let closed = closed.with_peer(*peer)?;
             Ok(Tables {
                 here,
+                numbers,
                 closed,
                 taken,
                 came,
@@ -126,6 +136,7 @@ pub fn with_deed(alloc: Global, deed: &Deed, tables: Tables) -> Result<Tables, A
         }
         _ => Ok(Tables {
             here,
+            numbers,
             closed,
             taken,
             came,

@@ -3,17 +3,18 @@
 ghost use Rattle.std.specs.Prelude.{◌≡◌, [], IfOk};
 ghost use Rattle.nob_check_tables.specs.Taken as words;
 
+use crate::numbers::SessionNumbers;
 use indexmap::IndexMap;
 use nob_frame::Frame;
 use nob_ids::SpaceId;
 use std::alloc::{AllocError, Global};
 use std::marker::Model;
 
-/// Whether a frame is of the session with its sender: no deed opens one anew, so it is the first.
-pub(crate) fn is_present(frame: &Frame) -> bool
-    ensures { result ≡ words.is_present frame.now }
+/// Whether a frame is of the session with its sender. Constant time on average.
+pub(crate) fn is_present(frame: &Frame, numbers: &SessionNumbers) -> bool
+    ensures { result ≡ words.is_present frame.now numbers.now }
 {
-    frame.session == 1
+    frame.session == numbers.number(frame.from)
 }
 
 /// How many items of each peer were accepted. Contracts see the pairs, in the order in which the

@@ -183,7 +183,7 @@ lost_shapes page departure = if is_shown page departure.row then lost_line page 
 abbrev pub mark_style : Mark → Style
 mark_style (marks.Live rep) = styles.Live
 mark_style (marks.Listed rep client) = styles.Listed
-mark_style (marks.Pinned rep peer item) = styles.Pinned
+mark_style (marks.Pinned rep peer session item) = styles.Pinned
 
 -- the row at which a bar ends: below all that are shown where it goes on
 abbrev pub end_of : Page → Option ℕ → ℕ

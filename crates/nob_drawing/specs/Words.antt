@@ -86,7 +86,7 @@ entry_words entry = decimal entry.space ++ 32 ∷ (event_text (arrival_words ent
 abbrev pub mark_words : Mark → List ℕ
 mark_words (marks.Live rep) = rep_text rep ++ codes " live"
 mark_words (marks.Listed rep client) = rep_text rep ++ (codes " listed " ++ decimal client)
-mark_words (marks.Pinned rep peer item) = rep_text rep ++ (codes " pinned for " ++ decimal peer)
+mark_words (marks.Pinned rep peer session item) = rep_text rep ++ (codes " pinned for " ++ decimal peer)
 
 -- words that are too long are cut
 abbrev pub cut : (most : ℕ) → List ℕ → List ℕ

@@ -18,7 +18,7 @@ fn mark_style(mark: Mark) -> Style
     match mark {
         Mark::Live(_) => Style::Live,
         Mark::Listed(_, _) => Style::Listed,
-        Mark::Pinned(_, _, _) => Style::Pinned,
+        Mark::Pinned(_, _, _, _) => Style::Pinned,
     }
 }
 

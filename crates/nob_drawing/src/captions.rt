@@ -234,6 +234,6 @@ pub(crate) fn mark_words(alloc: Global, mark: Mark) -> Result<String, AllocError
     match mark {
         Mark::Live(rep) => live_words(alloc, rep),
         Mark::Listed(rep, client) => listed_words(alloc, rep, client),
-        Mark::Pinned(rep, peer, _) => pinned_words(alloc, rep, peer),
+        Mark::Pinned(rep, peer, _, _) => pinned_words(alloc, rep, peer),
     }
 }

@@ -9,7 +9,7 @@ use Rattle.nob_ids.specs.Names.{is_same}
 use Rattle.nob_ids.specs.declared.wire_rep.WireRep.{WireRep}
 use Rattle.nob_item.specs.declared.item.Item.{Item}
 use Rattle.nob_item.specs.declared.item.Item.TheVariants as items
-use Rattle.nob_model_types.specs.Sessions.{closed, item_at}
+use Rattle.nob_model_types.specs.Sessions.{closed, number, item_at}
 use Rattle.nob_model_types.specs.Objects.{exports, is_exported, is_withdrawn, is_live}
 use Rattle.nob_model_types.specs.declared.deed.Deed.{Deed}
 use Rattle.nob_model_types.specs.declared.deed.Deed.TheVariants as did
@@ -131,16 +131,16 @@ still s deed D S N (Listed rep c) h =
     last true true is = refl
     last true false is = sym is
     last false e is = refl
-still s deed D S N (Pinned rep p k) h = last (is_open p k (deed ∷ D)) (list_any test (flat_map pins_of (S ++ N))) sent
+still s deed D S N (Pinned rep p j k) h = last (is_open p j k (deed ∷ D)) (list_any test (flat_map pins_of (S ++ N))) sent
   where
     test : Mark → Bool
-    test = same_mark (Pinned rep p k)
+    test = same_mark (Pinned rep p j k)
 
     sent : list_any test (flat_map pins_of (S ++ N)) ≡ true
     sent =
         ap (list_any test) (flat_map-append pins_of S N)
         ∙ list_any-append test (flat_map pins_of S) (flat_map pins_of N)
-        ∙ or_left (list_any test (flat_map pins_of S)) _ (and_parts (is_open p k D) (list_any test (flat_map pins_of S)) h).1
+        ∙ or_left (list_any test (flat_map pins_of S)) _ (and_parts (is_open p j k D) (list_any test (flat_map pins_of S)) h).1
 
     last : (a e : Bool) → e ≡ true → a ≡ a && e
     last true true is = refl
@@ -252,10 +252,12 @@ old_or_new s deed D S all (Listed rep c) h =
     let parts = and_parts (is_listed s rep.index c (deed ∷ D)) (list_any (is_same rep) (exports (deed ∷ D))) h in
     let more = and_parts (not (closed c (deed ∷ D))) (is_entered s rep.index c (deed ∷ D)) parts.0 in
     listed_old s deed D S rep c (own_of s rep (exports (deed ∷ D)) all parts.1) more.0 more.1 parts.1
-old_or_new s deed D S all (Pinned rep p k) h =
-    let parts = and_parts (is_open p k (deed ∷ D)) (list_any (same_mark (Pinned rep p k)) (flat_map pins_of S)) h in
-    let more = and_parts (not (is_settled p k (deed ∷ D))) (not (closed p (deed ∷ D))) parts.0 in
-    inl (and_from (is_open p k D) _ (and_from (not (is_settled p k D)) _ (settled_before p k deed D more.0) (closed_before p deed D more.1)) parts.1)
+old_or_new s deed D S all (Pinned rep p j k) h =
+    let parts = and_parts (is_open p j k (deed ∷ D)) (list_any (same_mark (Pinned rep p j k)) (flat_map pins_of S)) h in
+    let more = and_parts (j == number p (deed ∷ D) && not (is_settled p k (deed ∷ D))) (not (closed p (deed ∷ D))) parts.0 in
+    let first = and_parts (j == number p (deed ∷ D)) (not (is_settled p k (deed ∷ D))) more.0 in
+    let present : (j == number p D) ≡ true = first.0 in
+    inl (and_from (is_open p j k D) _ (and_from (j == number p D && not (is_settled p k D)) _ (and_from (j == number p D) _ present (settled_before p k deed D first.1)) (closed_before p deed D more.1)) parts.1)
 
 -- ---- the new one holds
 

@@ -8,33 +8,33 @@ use Rattle.std.proofs.lemmas.Map.Views.{any-filter_same}
 use Rattle.nob_ids.specs.Names.{is_same}
 use Rattle.nob_ids.specs.declared.wire_rep.WireRep.{WireRep}
 use Rattle.nob_item.specs.Kinds.{counted_in}
-use Rattle.nob_model_types.specs.Sessions.{closed, item_at}
+use Rattle.nob_model_types.specs.Sessions.{closed, number, item_at}
 use Rattle.nob_model_types.specs.Objects.{exports, is_withdrawn, live}
 use Rattle.nob_model_types.specs.declared.deed.Deed.{Deed}
 use Rattle.nob_model_types.specs.declared.deed.Deed.TheVariants.{Act}
 use Rattle.nob_model_work.specs.Gifts.{once}
 use Rattle.nob_model_history.specs.Listing.{is_entered, is_entered_after, is_listed}
-use Rattle.nob_model_history.specs.Transit.{is_settled, is_pinned, is_some_of}
+use Rattle.nob_model_history.specs.Transit.{is_settled, is_of_present, is_pinned, is_some_of}
 use Rattle.nob_model_history.specs.declared.transit.SentItem.{SentItem}
 use Rattle.nob_model_history.proofs.Turning.{same_ref}
-use Rattle.nob_model_journal.specs.Tests.{senders_in, with_space}
+use Rattle.nob_model_journal.specs.Tests.{with_space}
 use Rattle.nob_drawing_plan.specs.declared.mark.Mark.{Mark}
 use Rattle.nob_drawing_plan.specs.declared.mark.Mark.TheVariants.{Live, Listed, Pinned}
-use Rattle.nob_drawing_plan.specs.Marks.{same_mark, live_marks, clients_of, listed_marks, pins_of}
+use Rattle.nob_drawing_plan.specs.Marks.{same_mark, live_marks, senders_in, clients_of, listed_marks, pins_of}
 
 -- all that holds after these deeds, of what was sent of these items
 abbrev pub front : ℕ → List Deed → List SentItem → List Mark
 front s D S = live_marks s D ++ (listed_marks s D ++ flat_map pins_of (filter (is_pinned D) S))
 
--- whether the session with p is open here and item k isn't settled
-abbrev pub is_open : (p k : ℕ) → List Deed → Bool
-is_open p k D = not (is_settled p k D) && not (closed p D)
+-- whether session j with p is the present one and open here, and item k isn't settled
+abbrev pub is_open : (p j k : ℕ) → List Deed → Bool
+is_open p j k D = j == number p D && not (is_settled p k D) && not (closed p D)
 
 -- whether a mark holds
 abbrev pub held : ℕ → List Deed → List SentItem → Mark → Bool
 held s D S (Live rep) = (rep.owner == s && not (is_withdrawn rep.index D)) && list_any (is_same rep) (exports D)
 held s D S (Listed rep c) = is_listed s rep.index c D && list_any (is_same rep) (exports D)
-held s D S (Pinned rep p k) = is_open p k D && list_any (same_mark (Pinned rep p k)) (flat_map pins_of S)
+held s D S (Pinned rep p j k) = is_open p j k D && list_any (same_mark (Pinned rep p j k)) (flat_map pins_of S)
 
 -- ---- tests of lists
 
@@ -167,39 +167,44 @@ once_some test [] h = absurd (true≢false (sym h))
 once_some test (rep ∷ reps) h = refl
 
 -- what carries a pinned reference is pinned as long as it is open
-carried : (D : List Deed) (rep : WireRep) (p k : ℕ) (x : SentItem) → list_any (same_mark (Pinned rep p k)) (pins_of x) ≡ true → is_pinned D x ≡ is_open p k D
-carried D rep p k x h =
-    ap (λ (b : Bool). b && not (is_settled x.to x.number D) && not (closed x.to D)) some
-    ∙ ap (λ (q : ℕ). not (is_settled q x.number D) && not (closed q D)) (sym (eqb-true p x.to two.1))
-    ∙ ap (λ (j : ℕ). not (is_settled p j D) && not (closed p D)) (sym (eqb-true k x.number one.1))
+carried : (D : List Deed) (rep : WireRep) (p j k : ℕ) (x : SentItem) → list_any (same_mark (Pinned rep p j k)) (pins_of x) ≡ true → is_pinned D x ≡ is_open p j k D
+carried D rep p j k x h =
+    ap (λ (b : Bool). b && is_of_present D x && not (is_settled x.to x.number D) && not (closed x.to D)) some
+    ∙ ap (λ (q : ℕ). x.session == number q D && not (is_settled q x.number D) && not (closed q D)) (sym (eqb-true p x.to three.1))
+    ∙ ap (λ (m : ℕ). m == number p D && not (is_settled p x.number D) && not (closed p D)) (sym (eqb-true j x.session two.1))
+    ∙ ap (λ (m : ℕ). j == number p D && not (is_settled p m D) && not (closed p D)) (sym (eqb-true k x.number one.1))
   where
     all : List WireRep
     all = once (counted_in x.item)
 
-    tests : (list_any (is_same rep) all && p == x.to) && k == x.number ≡ true
+    tests : ((list_any (is_same rep) all && p == x.to) && j == x.session) && k == x.number ≡ true
     tests =
-        ap (λ (b : Bool). b && k == x.number) (sym (any_and (is_same rep) (p == x.to) all))
-        ∙ sym (any_and (λ (r : WireRep). is_same rep r && p == x.to) (k == x.number) all)
-        ∙ sym (any_map (same_mark (Pinned rep p k)) (λ (r : WireRep). Pinned r x.to x.number) all)
+        ap (λ (b : Bool). (b && j == x.session) && k == x.number) (sym (any_and (is_same rep) (p == x.to) all))
+        ∙ ap (λ (b : Bool). b && k == x.number) (sym (any_and (λ (r : WireRep). is_same rep r && p == x.to) (j == x.session) all))
+        ∙ sym (any_and (λ (r : WireRep). is_same rep r && p == x.to && j == x.session) (k == x.number) all)
+        ∙ sym (any_map (same_mark (Pinned rep p j k)) (λ (r : WireRep). Pinned r x.to x.session x.number) all)
         ∙ h
 
-    one : (list_any (is_same rep) all && p == x.to ≡ true) × ((k == x.number) ≡ true)
-    one = and_parts (list_any (is_same rep) all && p == x.to) (k == x.number) tests
+    one : ((list_any (is_same rep) all && p == x.to) && j == x.session ≡ true) × ((k == x.number) ≡ true)
+    one = and_parts ((list_any (is_same rep) all && p == x.to) && j == x.session) (k == x.number) tests
 
-    two : (list_any (is_same rep) all ≡ true) × ((p == x.to) ≡ true)
-    two = and_parts (list_any (is_same rep) all) (p == x.to) one.0
+    two : (list_any (is_same rep) all && p == x.to ≡ true) × ((j == x.session) ≡ true)
+    two = and_parts (list_any (is_same rep) all && p == x.to) (j == x.session) one.0
+
+    three : (list_any (is_same rep) all ≡ true) × ((p == x.to) ≡ true)
+    three = and_parts (list_any (is_same rep) all) (p == x.to) two.0
 
     some : is_some_of (counted_in x.item) ≡ true
-    some = once_some (is_same rep) (counted_in x.item) two.0
+    some = once_some (is_same rep) (counted_in x.item) three.0
 
-pinned_in : (D : List Deed) (rep : WireRep) (p k : ℕ) (S : List SentItem) → list_any (same_mark (Pinned rep p k)) (flat_map pins_of (filter (is_pinned D) S)) ≡ (is_open p k D && list_any (same_mark (Pinned rep p k)) (flat_map pins_of S))
-pinned_in D rep p k [] = sym (and_none (is_open p k D))
-pinned_in D rep p k (x ∷ S) =
-    by (pinned_in D rep p k S) (is_pinned D x) refl
-    ∙ sym (ap (λ (b : Bool). is_open p k D && b) (list_any-append test (pins_of x) (flat_map pins_of S)))
+pinned_in : (D : List Deed) (rep : WireRep) (p j k : ℕ) (S : List SentItem) → list_any (same_mark (Pinned rep p j k)) (flat_map pins_of (filter (is_pinned D) S)) ≡ (is_open p j k D && list_any (same_mark (Pinned rep p j k)) (flat_map pins_of S))
+pinned_in D rep p j k [] = sym (and_none (is_open p j k D))
+pinned_in D rep p j k (x ∷ S) =
+    by (pinned_in D rep p j k S) (is_pinned D x) refl
+    ∙ sym (ap (λ (b : Bool). is_open p j k D && b) (list_any-append test (pins_of x) (flat_map pins_of S)))
   where
     test : Mark → Bool
-    test = same_mark (Pinned rep p k)
+    test = same_mark (Pinned rep p j k)
 
     kept : (a q o : Bool) → (a ≡ true → true ≡ o) → a || (o && q) ≡ o && (a || q)
     kept true q true h = refl
@@ -211,14 +216,14 @@ pinned_in D rep p k (x ∷ S) =
     left true q false h = refl
     left false q o h = refl
 
-    by : list_any test (flat_map pins_of (filter (is_pinned D) S)) ≡ (is_open p k D && list_any test (flat_map pins_of S)) → (b : Bool) → is_pinned D x ≡ b → list_any test (flat_map pins_of (cond b (x ∷ filter (is_pinned D) S) (filter (is_pinned D) S))) ≡ is_open p k D && (list_any test (pins_of x) || list_any test (flat_map pins_of S))
+    by : list_any test (flat_map pins_of (filter (is_pinned D) S)) ≡ (is_open p j k D && list_any test (flat_map pins_of S)) → (b : Bool) → is_pinned D x ≡ b → list_any test (flat_map pins_of (cond b (x ∷ filter (is_pinned D) S) (filter (is_pinned D) S))) ≡ is_open p j k D && (list_any test (pins_of x) || list_any test (flat_map pins_of S))
     by rest true is =
         list_any-append test (pins_of x) (flat_map pins_of (filter (is_pinned D) S))
         ∙ ap (λ (b : Bool). list_any test (pins_of x) || b) rest
-        ∙ kept (list_any test (pins_of x)) (list_any test (flat_map pins_of S)) (is_open p k D) (λ h. sym is ∙ carried D rep p k x h)
+        ∙ kept (list_any test (pins_of x)) (list_any test (flat_map pins_of S)) (is_open p j k D) (λ h. sym is ∙ carried D rep p j k x h)
     by rest false is =
         rest
-        ∙ left (list_any test (pins_of x)) (list_any test (flat_map pins_of S)) (is_open p k D) (λ h. sym is ∙ carried D rep p k x h)
+        ∙ left (list_any test (pins_of x)) (list_any test (flat_map pins_of S)) (is_open p j k D) (λ h. sym is ∙ carried D rep p j k x h)
 
 -- ---- all
 
@@ -231,7 +236,7 @@ in_front s D S (Live rep) =
     let pins = flat_map pins_of (filter (is_pinned D) S) in
     parts_in test (live_marks s D) (listed_marks s D) pins
     ∙ ap (λ (b : Bool). list_any test (live_marks s D) || (b || list_any test pins)) (no_mark test (clients_of s D) (λ r. any_map test (Listed r) (filter (λ c. is_listed s r.index c D) (senders_in D)) ∙ none (filter (λ c. is_listed s r.index c D) (senders_in D))) (exports D))
-    ∙ ap (λ (b : Bool). list_any test (live_marks s D) || b) (no_mark test pins_of (λ x. any_map test (λ r. Pinned r x.to x.number) (once (counted_in x.item)) ∙ none (once (counted_in x.item))) (filter (is_pinned D) S))
+    ∙ ap (λ (b : Bool). list_any test (live_marks s D) || b) (no_mark test pins_of (λ x. any_map test (λ r. Pinned r x.to x.session x.number) (once (counted_in x.item)) ∙ none (once (counted_in x.item))) (filter (is_pinned D) S))
     ∙ or_none (list_any test (live_marks s D))
     ∙ live_in s D rep
 in_front s D S (Listed rep c) =
@@ -239,13 +244,13 @@ in_front s D S (Listed rep c) =
     let pins = flat_map pins_of (filter (is_pinned D) S) in
     parts_in test (live_marks s D) (listed_marks s D) pins
     ∙ ap (λ (b : Bool). b || (list_any test (listed_marks s D) || list_any test pins)) (any_map test Live (live s D) ∙ none (live s D))
-    ∙ ap (λ (b : Bool). list_any test (listed_marks s D) || b) (no_mark test pins_of (λ x. any_map test (λ r. Pinned r x.to x.number) (once (counted_in x.item)) ∙ none (once (counted_in x.item))) (filter (is_pinned D) S))
+    ∙ ap (λ (b : Bool). list_any test (listed_marks s D) || b) (no_mark test pins_of (λ x. any_map test (λ r. Pinned r x.to x.session x.number) (once (counted_in x.item)) ∙ none (once (counted_in x.item))) (filter (is_pinned D) S))
     ∙ or_none (list_any test (listed_marks s D))
     ∙ clients_in s D rep c (exports D)
-in_front s D S (Pinned rep p k) =
-    let test = same_mark (Pinned rep p k) in
+in_front s D S (Pinned rep p j k) =
+    let test = same_mark (Pinned rep p j k) in
     let pins = flat_map pins_of (filter (is_pinned D) S) in
     parts_in test (live_marks s D) (listed_marks s D) pins
     ∙ ap (λ (b : Bool). b || (list_any test (listed_marks s D) || list_any test pins)) (any_map test Live (live s D) ∙ none (live s D))
     ∙ ap (λ (b : Bool). b || list_any test pins) (no_mark test (clients_of s D) (λ r. any_map test (Listed r) (filter (λ c. is_listed s r.index c D) (senders_in D)) ∙ none (filter (λ c. is_listed s r.index c D) (senders_in D))) (exports D))
-    ∙ pinned_in D rep p k S
+    ∙ pinned_in D rep p j k S

@@ -26,19 +26,24 @@ mark_is (Listed rep client) (Listed other twin) h =
     let one : rep ≡ other = same_ref rep other parts.0 in
     let two : client ≡ twin = eqb-true client twin parts.1 in
     cc
-mark_is (Pinned rep peer item) (Pinned other twin number) h =
-    let parts = and_parts (is_same rep other && peer == twin) (item == number) h in
-    let more = and_parts (is_same rep other) (peer == twin) parts.0 in
-    let one : rep ≡ other = same_ref rep other more.0 in
-    let two : peer ≡ twin = eqb-true peer twin more.1 in
-    let three : item ≡ number = eqb-true item number parts.1 in
+mark_is (Pinned rep peer session item) (Pinned other twin number place) h =
+    let parts = and_parts (is_same rep other && peer == twin && session == number) (item == place) h in
+    let more = and_parts (is_same rep other && peer == twin) (session == number) parts.0 in
+    let first = and_parts (is_same rep other) (peer == twin) more.0 in
+    let one : rep ≡ other = same_ref rep other first.0 in
+    let two : peer ≡ twin = eqb-true peer twin first.1 in
+    let three : session ≡ number = eqb-true session number more.1 in
+    let four : item ≡ place = eqb-true item place parts.1 in
     cc
 mark_is _ _ h = absurd (true≢false (sym h))
 
 pub mark_self : (a : Mark) → same_mark a a ≡ true
 mark_self (Live rep) = same_self rep
 mark_self (Listed rep client) = and_from (is_same rep rep) (client == client) (same_self rep) (eq-eqb client client refl)
-mark_self (Pinned rep peer item) = and_from (is_same rep rep && peer == peer) (item == item) (and_from (is_same rep rep) (peer == peer) (same_self rep) (eq-eqb peer peer refl)) (eq-eqb item item refl)
+mark_self (Pinned rep peer session item) =
+    and_from (is_same rep rep && peer == peer && session == session) (item == item)
+    (and_from (is_same rep rep && peer == peer) (session == session) (and_from (is_same rep rep) (peer == peer) (same_self rep) (eq-eqb peer peer refl)) (eq-eqb session session refl))
+    (eq-eqb item item refl)
 
 bool_same : (a b : Bool) → (a ≡ true → b ≡ true) → (b ≡ true → a ≡ true) → a ≡ b
 bool_same true true f g = refl

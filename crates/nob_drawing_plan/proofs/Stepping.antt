@@ -120,16 +120,16 @@ front_parts s D S N =
     ∙ ap (λ (ms : List Mark). lives ++ ms) (sym (append_assoc lists pins (new_pins D N)))
     ∙ sym (append_assoc lives (lists ++ pins) (new_pins D N))
 
-just_is : (s n : ℕ) (deed : Deed) (D : List Deed) → just_sent deed (ledger_of s n D) ≡ new_items (sent (history_of s n D)) (gifts s n deed D (work s n D))
+just_is : (s n : ℕ) (deed : Deed) (D : List Deed) → just_sent deed (ledger_of s n D) ≡ new_items D (sent (history_of s n D)) (gifts s n deed D (work s n D))
 just_is s n deed D =
     ap (drop (length (sent (history_of s n D)))) (sent_more s n deed D)
-    ∙ drop-append_seam (sent (history_of s n D)) (new_items (sent (history_of s n D)) (gifts s n deed D (work s n D)))
+    ∙ drop-append_seam (sent (history_of s n D)) (new_items D (sent (history_of s n D)) (gifts s n deed D (work s n D)))
 
 -- the marks after a deed: those of what was sent before, and the pins of what is sent now
-marks_more : (s n : ℕ) (deed : Deed) (D : List Deed) → marks_of s (history_of s n (deed ∷ D)) ≡ front s (deed ∷ D) (sent (history_of s n D)) ++ new_pins (deed ∷ D) (new_items (sent (history_of s n D)) (gifts s n deed D (work s n D)))
+marks_more : (s n : ℕ) (deed : Deed) (D : List Deed) → marks_of s (history_of s n (deed ∷ D)) ≡ front s (deed ∷ D) (sent (history_of s n D)) ++ new_pins (deed ∷ D) (new_items D (sent (history_of s n D)) (gifts s n deed D (work s n D)))
 marks_more s n deed D =
     ap (λ (S : List SentItem). front s (deed ∷ D) S) (sent_more s n deed D)
-    ∙ front_parts s (deed ∷ D) (sent (history_of s n D)) (new_items (sent (history_of s n D)) (gifts s n deed D (work s n D)))
+    ∙ front_parts s (deed ∷ D) (sent (history_of s n D)) (new_items D (sent (history_of s n D)) (gifts s n deed D (work s n D)))
 
 changed_bars : (s row : ℕ) (deed : Deed) (D : List Deed) (S N : List SentItem) (B : List Bar) → AreOwn s (exports (deed ∷ D)) → ((m : Mark) → has_bar s m B ≡ held s D S m) → bars_by s row (change_of deed D) (deed ∷ D) N B ≡ bars_after s row (front s (deed ∷ D) S ++ new_pins (deed ∷ D) N) B
 changed_bars s row deed D S N B own told =
@@ -185,7 +185,7 @@ deed_bars s n row deed D B own told = by (is_quiet_deed deed) refl
     S = sent (history_of s n D)
 
     N : List SentItem
-    N = new_items (sent (history_of s n D)) (gifts s n deed D (work s n D))
+    N = new_items D (sent (history_of s n D)) (gifts s n deed D (work s n D))
 
     by : (b : Bool) → is_quiet_deed deed ≡ b → cond b B (bars_by s row (change_of deed D) (deed ∷ D) (just_sent deed (ledger_of s n D)) B) ≡ bars_after s row (marks_of s (history_of s n (deed ∷ D))) B
     by true quiet =

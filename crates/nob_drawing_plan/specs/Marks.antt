@@ -1,6 +1,6 @@
 -- What holds at a space after what it did, so that a drawing has a bar for it as long as it holds: an object is live, a
 -- client is listed for one, a reference is pinned. These are the words of a space's history.
-use Rattle.std.specs.Prelude.{ℕ, Bool, false, ◌&&◌, ◌==◌, List, ◌++◌, map, filter, flat_map, true, false, Option, Some, None}
+use Rattle.std.specs.Prelude.{ℕ, Bool, false, ◌&&◌, ◌==◌, List, [], ◌∷◌, ◌++◌, map, filter, flat_map, true, false, Option, Some, None}
 use Rattle.nob_ids.specs.Names.{is_same}
 use Rattle.nob_ids.specs.declared.wire_rep.WireRep.{WireRep}
 use Rattle.nob_item.specs.Kinds.{counted_in}
@@ -14,7 +14,7 @@ use Rattle.nob_model_history.specs.Transit.{bundles}
 use Rattle.nob_model_history.specs.declared.history.History.{History}
 use Rattle.nob_model_history.specs.declared.transit.SentItem.{SentItem}
 use Rattle.nob_model_journal.specs.Journals.{history_at}
-use Rattle.nob_model_journal.specs.Tests.{senders_in}
+use Rattle.nob_model_journal.specs.Tests.{with_space}
 use Rattle.nob_drawing_plan.specs.declared.mark.Mark.{Mark}
 use Rattle.nob_drawing_plan.specs.declared.mark.Mark.TheVariants as marks
 
@@ -22,12 +22,18 @@ use Rattle.nob_drawing_plan.specs.declared.mark.Mark.TheVariants as marks
 abbrev pub same_mark : Mark → Mark → Bool
 same_mark (marks.Live rep) (marks.Live other) = is_same rep other
 same_mark (marks.Listed rep client) (marks.Listed other twin) = is_same rep other && client == twin
-same_mark (marks.Pinned rep peer item) (marks.Pinned other twin number) = is_same rep other && peer == twin && item == number
+same_mark (marks.Pinned rep peer session item) (marks.Pinned other twin number place) = is_same rep other && peer == twin && session == number && item == place
 same_mark _ _ = false
 
 -- each live object of space s is
 abbrev pub live_marks : ℕ → List Deed → List Mark
 live_marks s D = map marks.Live (live s D)
+
+-- the spaces whose items were acted on, each once
+abbrev pub senders_in : List Deed → List ℕ
+senders_in [] = []
+senders_in (did.Act p k ∷ D) = with_space p (senders_in D)
+senders_in (_ ∷ D) = senders_in D
 
 -- each client that is listed for an object of space s, of those whose items were acted on
 abbrev pub clients_of : ℕ → List Deed → WireRep → List Mark
@@ -39,7 +45,7 @@ listed_marks s D = flat_map (clients_of s D) (exports D)
 
 -- each reference that an item was sent with, once
 abbrev pub pins_of : SentItem → List Mark
-pins_of sent_item = map (λ rep. marks.Pinned rep sent_item.to sent_item.number) (once (counted_in sent_item.item))
+pins_of sent_item = map (λ rep. marks.Pinned rep sent_item.to sent_item.session sent_item.number) (once (counted_in sent_item.item))
 
 -- all that are pinned
 abbrev pub pinned_marks : History → List Mark

@@ -3,7 +3,7 @@
 use Rattle.std.specs.Prelude.{ℕ, Bool, true, ◌&&◌, not, ◌==◌, List, [], ◌∷◌, length, map, filter, flat_map, Option, Some, None, drop, if◌then◌else◌}
 use Rattle.nob_item.specs.declared.item.Item.{Item}
 use Rattle.nob_item.specs.declared.item.Item.TheVariants as items
-use Rattle.nob_model_types.specs.Sessions.{closed, item_at}
+use Rattle.nob_model_types.specs.Sessions.{closed, number, item_at}
 use Rattle.nob_model_types.specs.Objects.{is_live}
 use Rattle.nob_model_types.specs.declared.deed.Deed.{Deed}
 use Rattle.nob_model_types.specs.declared.deed.Deed.TheVariants.{Export, Act}
@@ -41,7 +41,7 @@ is_entered_still s index c (_) D = true
 abbrev pub holds_still : ℕ → Change → List Deed → Mark → Bool
 holds_still s change D (marks.Live rep) = is_live s rep.index D
 holds_still s change D (marks.Listed rep c) = not (closed c D) && is_entered_still s rep.index c change D
-holds_still s change D (marks.Pinned rep p k) = not (is_settled p k D) && not (closed p D)
+holds_still s change D (marks.Pinned rep p session k) = session == number p D && not (is_settled p k D) && not (closed p D)
 
 -- the mark that holds after a change and perhaps not before, where there is one
 abbrev pub first_new : ℕ → Change → List Deed → Option Mark

@@ -12,8 +12,9 @@ pub enum Mark {
     Live(WireRep),
     /// A client is listed for an object of the space.
     Listed(WireRep, SpaceId),
-    /// A reference that the space sent to a peer in the item of this number is pinned.
-    Pinned(WireRep, SpaceId, ItemNo),
+    /// A reference that the space sent to a peer, in the session and in the item of these numbers, is
+    /// pinned.
+    Pinned(WireRep, SpaceId, u32, ItemNo),
 }
 
 impl Mark {
@@ -30,9 +31,9 @@ impl Mark {
                 Mark::Listed(twin, peer) => rep == twin && client == peer,
                 _ => false,
             },
-            Mark::Pinned(rep, peer, item) => match other {
-                Mark::Pinned(twin, other_peer, number) => {
-                    rep == twin && peer == other_peer && item == number
+            Mark::Pinned(rep, peer, session, item) => match other {
+                Mark::Pinned(twin, other_peer, number, place) => {
+                    rep == twin && peer == other_peer && session == number && item == place
                 }
                 _ => false,
             },

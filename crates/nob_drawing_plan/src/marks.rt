@@ -1,15 +1,17 @@
 //! What holds at a space after what it did.
 
-ghost use Rattle.std.specs.Prelude.{◌≡◌, IfOk, map, filter, flat_map};
+ghost use Rattle.std.specs.Prelude.{◌≡◌, ◌==◌, IfOk, map, filter, flat_map};
+ghost use Rattle.std.specs.List.{list_any};
 ghost use Rattle.nob_model_types.specs.Deeds.{deed_in};
 ghost use Rattle.nob_model_history.specs.Listing.{is_listed};
+ghost use Rattle.nob_model_journal.specs.Tests.{with_space as with_space_word};
 ghost use Rattle.nob_drawing_plan.specs.declared.mark.Mark.TheVariants as marks;
 ghost use Rattle.nob_drawing_plan.specs.Marks as spec;
 
 use crate::mark::Mark;
 use nob_ids::{SpaceId, WireRep};
 use nob_model_history::{History, SentItem, listing, transit};
-use nob_model_journal::journals::{history_at, senders_in};
+use nob_model_journal::journals::history_at;
 use nob_model_types::{Deed, Entry, Here, objects};
 use nob_model_work::gifts::once;
 use std::alloc::{AllocError, Global};
@@ -29,6 +31,38 @@ fn listed_of(alloc: Global, rep: WireRep, clients: &[SpaceId]) -> Result<Vec<Mar
         .iter()
         .map(|client| Mark::Listed(rep, *client))
         .collect(alloc)
+}
+
+// Whether a space is one of these.
+fn is_among(space: SpaceId, spaces: &[SpaceId]) -> bool
+    ensures { result ≡ list_any (λ other. other == space) spaces.now }
+{
+    spaces.iter().any(|other| *other == space)
+}
+
+// Spaces with one more, unless it is one of them.
+fn with_space(space: SpaceId, mut spaces: Vec<SpaceId>) -> Result<Vec<SpaceId>, AllocError>
+    ensures { IfOk result (λ more. more.items ≡ with_space_word space spaces.items) }
+{
+    if is_among(space, spaces.as_slice()) {
+        return Ok(spaces);
+    }
+    spaces.insert(0, space)?;
+    Ok(spaces)
+}
+
+// The spaces whose items were acted on, each once.
+fn senders_in(alloc: Global, deeds: &[Deed]) -> Result<Vec<SpaceId>, AllocError>
+    ensures { IfOk result (λ spaces. spaces.items ≡ spec.senders_in deeds.now) }
+{
+    match deeds {
+        [] => Ok(Vec::new(alloc)),
+        [Deed::Act(from, _), older @ ..] => {
+            let spaces = senders_in(alloc, older)?;
+            with_space(*from, spaces)
+        }
+        [_, older @ ..] => senders_in(alloc, older),
+    }
 }
 
 // The clients among these spaces that are listed for an index.
@@ -94,11 +128,12 @@ pub(crate) fn pins_of(alloc: Global, sent_item: &SentItem) -> Result<Vec<Mark>, 
     ensures { IfOk result (λ found. found.items ≡ spec.pins_of sent_item.now) }
 {
     let to = sent_item.to;
+    let session = sent_item.session;
     let number = sent_item.number;
     let carried = nob_item::counted_refs(alloc, &sent_item.item)?;
     let reps = once(alloc, carried.as_slice())?;
     reps.iter()
-        .map(|rep| Mark::Pinned(*rep, to, number))
+        .map(|rep| Mark::Pinned(*rep, to, session, number))
         .collect(alloc)
 }
 

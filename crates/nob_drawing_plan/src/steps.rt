@@ -80,7 +80,11 @@ fn holds_still(change: &Change, after: &DeedIndex, mark: Mark) -> bool
         Mark::Listed(rep, client) => {
             !after.is_closed(client) && is_entered_still(change, after, rep.index, client)
         }
-        Mark::Pinned(_, peer, item) => !after.is_settled(peer, item) && !after.is_closed(peer),
+        Mark::Pinned(_, peer, session, item) => {
+            session == after.number(peer)
+                && !after.is_settled(peer, item)
+                && !after.is_closed(peer)
+        }
     }
 }
 
@@ -116,6 +120,9 @@ fn is_pinned(alloc: Global, after: &DeedIndex, sent_item: &SentItem) -> Result<b
 {
     let reps = nob_item::counted_refs(alloc, &sent_item.item)?;
     if reps.as_slice().is_empty() {
+        return Ok(false);
+    }
+    if sent_item.session != after.number(sent_item.to) {
         return Ok(false);
     }
     if after.is_settled(sent_item.to, sent_item.number) {

@@ -1,7 +1,7 @@
 -- What a right answer that is no refusal tells of the history before, event by event.
 use Rattle.std.proofs.Common.{◌≡◌, ℕ, ◌+◌, ◌&&◌, ◌||◌, not, Bool, true, false, cond, List, [], ◌∷◌, length, find, Option, Some, None, Result, Ok, Err, refl, sym, ap, subst, ◌∙◌}
 use Rattle.std.specs.Prelude.{◌==◌, nat_le}
-use Rattle.std.proofs.lemmas.Bool.{not-false, or_parts}
+use Rattle.std.proofs.lemmas.Bool.{eqb-true, not-false, or_parts}
 use Rattle.nob_ids.specs.Names.{is_counted}
 use Rattle.nob_ids.specs.declared.reason.Reason.{Reason}
 use Rattle.nob_ids.specs.declared.reason.Reason.TheVariants.{BadItem, Asked}
@@ -23,7 +23,7 @@ use Rattle.nob_model_types.specs.declared.answer.Answer.TheVariants as answers
 use Rattle.nob_model_types.specs.declared.refusal.Refusal.{Refusal}
 use Rattle.nob_model_types.specs.declared.refusal.Refusal.TheVariants as refusals
 use Rattle.nob_model_types.specs.declared.refusal.Use.TheVariants as uses
-use Rattle.nob_model_types.specs.Sessions.{is_peer, closed, item_spelt}
+use Rattle.nob_model_types.specs.Sessions.{is_peer, closed, number, item_spelt}
 use Rattle.nob_model_types.specs.Objects.{exports, is_live, live}
 use Rattle.nob_model_types.specs.Turns.{is_own}
 use Rattle.nob_model_types.specs.Messages.{replies_to}
@@ -42,7 +42,7 @@ use Rattle.nob_model_history.specs.Listing.{is_any_listed}
 use Rattle.nob_model_acting.specs.Sending.{◌or_else◌, refuse_if, value_refused, send_refused, has_numbers, unless, is_gone}
 use Rattle.nob_model_acting.specs.Acting.{fault_of, act_refusal, answer_of_act, act_on}
 use Rattle.nob_model_acting.specs.Candidates.{to_settle, to_clean, to_claim}
-use Rattle.nob_model.specs.Right.{most_objects, last_number, greatest_hand, right_export, right_dup, right_release, calls_made, is_last_call, right_call, is_handful, answer_of_reply, answer_of_stage, answer_of_call, take_of, right_take_reply, jobs_made, job_of, claim_of, right_claim, finish_of, right_finish, act_of, right_act, settle_count, settle_of, right_settle, clean_of, right_clean, own_ref, withdraw_refused, right_withdraw, right_frames, arrival_of, right_arrival, tick_of, right_ticks, closing_of, right_closing}
+use Rattle.nob_model.specs.Right.{most_objects, last_number, greatest_hand, right_export, right_dup, right_release, calls_made, is_last_call, right_call, is_handful, answer_of_reply, answer_of_stage, answer_of_call, take_of, right_take_reply, jobs_made, job_of, claim_of, right_claim, has_ended, finish_of, right_finish, act_of, right_act, settle_count, settle_of, right_settle, clean_of, right_clean, own_ref, withdraw_refused, right_withdraw, right_frames, arrival_of, right_arrival, tick_of, right_ticks, closing_of, right_closing}
 
 -- ---- results
 
@@ -274,26 +274,27 @@ dropped_step : (test : Bool) (refusal : Option Refusal) → cond test (Ok answer
 dropped_step true refusal e = refl
 dropped_step false refusal e = let clash : answers.Finished ≡ answers.Dropped = (unless_ok refusal answers.Finished answers.Dropped e).1 in absurd (cc)
 
-finished_of : (s : ℕ) (outcome : Outcome) (found : Option Run) (h : History) → finish_of s outcome found h ≡ Ok answers.Finished → (run : Run) × (found ≡ Some run) × (closed run.message.from h.deeds ≡ false) × (value_refused s h (value_of outcome) ≡ None) × (send_refused run.message.from Limited h ≡ None)
+finished_of : (s : ℕ) (outcome : Outcome) (found : Option Run) (h : History) → finish_of s outcome found h ≡ Ok answers.Finished → (run : Run) × (found ≡ Some run) × (closed run.message.from h.deeds ≡ false) × (value_refused s h (value_of outcome) ≡ None) × (send_refused run.message.from Limited h ≡ None) × (run.message.session ≡ number run.message.from h.deeds)
 unfolding finish_of
 finished_of s outcome None h e = absurd (err_ok refusals.NoJob answers.Finished e)
 finished_of s outcome (Some run) h e =
-    let step = finished_step (closed run.message.from h.deeds) (value_refused s h (value_of outcome) or_else send_refused run.message.from Limited h) e in
+    let step = finished_step (has_ended run.message h) (value_refused s h (value_of outcome) or_else send_refused run.message.from Limited h) e in
     let free = both_none (value_refused s h (value_of outcome)) (send_refused run.message.from Limited h) step.1 in
-    (run, refl, step.0, free.0, free.1)
+    let open_still = or_parts (closed run.message.from h.deeds) (not (run.message.session == number run.message.from h.deeds)) step.0 in
+    (run, refl, open_still.0, free.0, free.1, eqb-true run.message.session (number run.message.from h.deeds) (not-false (run.message.session == number run.message.from h.deeds) open_still.1))
 
-dropped_of : (s : ℕ) (outcome : Outcome) (found : Option Run) (h : History) → finish_of s outcome found h ≡ Ok answers.Dropped → (run : Run) × (found ≡ Some run) × (closed run.message.from h.deeds ≡ true)
+dropped_of : (s : ℕ) (outcome : Outcome) (found : Option Run) (h : History) → finish_of s outcome found h ≡ Ok answers.Dropped → (run : Run) × (found ≡ Some run) × (has_ended run.message h ≡ true)
 unfolding finish_of
 dropped_of s outcome None h e = absurd (err_ok refusals.NoJob answers.Dropped e)
-dropped_of s outcome (Some run) h e = (run, refl, dropped_step (closed run.message.from h.deeds) (value_refused s h (value_of outcome) or_else send_refused run.message.from Limited h) e)
+dropped_of s outcome (Some run) h e = (run, refl, dropped_step (has_ended run.message h) (value_refused s h (value_of outcome) or_else send_refused run.message.from Limited h) e)
 
--- a Finish whose reply was handed on: the job runs, the session with its client is open, and the reply may be sent
-pub finish_tells : (s job : ℕ) (outcome : Outcome) (h : History) → right_finish s job outcome h ≡ Ok answers.Finished → (run : Run) × (find (is_run job) h.work.running ≡ Some run) × (closed run.message.from h.deeds ≡ false) × (value_refused s h (value_of outcome) ≡ None) × (send_refused run.message.from Limited h ≡ None)
+-- a Finish whose reply was handed on: the job runs, the session in which its Call came is open and the present one, and the reply may be sent
+pub finish_tells : (s job : ℕ) (outcome : Outcome) (h : History) → right_finish s job outcome h ≡ Ok answers.Finished → (run : Run) × (find (is_run job) h.work.running ≡ Some run) × (closed run.message.from h.deeds ≡ false) × (value_refused s h (value_of outcome) ≡ None) × (send_refused run.message.from Limited h ≡ None) × (run.message.session ≡ number run.message.from h.deeds)
 unfolding right_finish
 finish_tells s job outcome h e = finished_of s outcome (find (is_run job) h.work.running) h e
 
--- a Finish whose reply goes to nobody: the job runs, and the session with its client has closed
-pub drop_tells : (s job : ℕ) (outcome : Outcome) (h : History) → right_finish s job outcome h ≡ Ok answers.Dropped → (run : Run) × (find (is_run job) h.work.running ≡ Some run) × (closed run.message.from h.deeds ≡ true)
+-- a Finish whose reply goes to nobody: the job runs, and the session in which its Call came has ended
+pub drop_tells : (s job : ℕ) (outcome : Outcome) (h : History) → right_finish s job outcome h ≡ Ok answers.Dropped → (run : Run) × (find (is_run job) h.work.running ≡ Some run) × (has_ended run.message h ≡ true)
 unfolding right_finish
 drop_tells s job outcome h e = dropped_of s outcome (find (is_run job) h.work.running) h e
 

@@ -39,8 +39,8 @@ use Rattle.nob_model_work.specs.Gifts.{dirty_for, dirties_for, answer_to, gifts_
 use Rattle.nob_model_history.specs.declared.history.History.{History}
 use Rattle.nob_model_history.specs.declared.transit.SentItem.{SentItem}
 use Rattle.nob_model_history.specs.Holds.{times}
-use Rattle.nob_model_history.specs.Transit.{sent, is_settle_of, is_settled, is_some_of, is_pinned, bundles, pinned, pins}
-use Rattle.nob_model_history.proofs.Sending.{next_item, new_items}
+use Rattle.nob_model_history.specs.Transit.{next_sent, sent, is_settle_of, is_settled, is_some_of, is_of_present, is_pinned, bundles, pinned, pins}
+use Rattle.nob_model_history.proofs.Sending.{new_items}
 use Rattle.nob_model_history.proofs.Pinning.{bundles_more}
 use Rattle.nob_model_history.proofs.Turning.{same_ref}
 use Rattle.nob_model_acting.specs.Sending.{◌or_else◌, refuse_if, is_gone, ref_refused, refs_refused, value_refused}
@@ -215,9 +215,9 @@ gifts_guarded s n limits deed D right = tt
 abbrev pub BundlesGuarded : (s : ℕ) → List Deed → List SentItem → Type 0
 BundlesGuarded s D sent_items = AllByRecursion (λ (one : SentItem). GuardsItem s D one.item) sent_items
 
-new_guarded : (s : ℕ) (D : List Deed) (more : List Gift) (before : List SentItem) → AreGuarded s D more → BundlesGuarded s D (new_items before more)
-new_guarded s D [] before are = tt
-new_guarded s D (gift ∷ more) before are = (are.0, new_guarded s D more (before ++ next_item before gift ∷ []) are.1)
+new_guarded : (s : ℕ) (D older : List Deed) (more : List Gift) (before : List SentItem) → AreGuarded s D more → BundlesGuarded s D (new_items older before more)
+new_guarded s D older [] before are = tt
+new_guarded s D older (gift ∷ more) before are = (are.0, new_guarded s D older more (before ++ next_sent older before gift ∷ []) are.1)
 
 narrow_if : {A : Type 0} (P : A → Type 0) (a b : Bool) (x : A) (less more : List A) → (a ≡ true → b ≡ true) → (AllByRecursion P more → AllByRecursion P less) → AllByRecursion P (cond b (x ∷ more) more) → AllByRecursion P (cond a (x ∷ less) less)
 narrow_if P true true x less more narrow rest all = (all.0, rest all.1)
@@ -247,18 +247,30 @@ closed_stays : (p : ℕ) (deed : Deed) (D : List Deed) → closed p D ≡ true �
 closed_stays p (did.Closing q reason cause) D is = settled_earlier (q == p) (closed p D) is
 closed_stays p deed D is = is
 
-pinned_step : (some settled shut settled_now shut_now : Bool) → (settled ≡ true → settled_now ≡ true) → (shut ≡ true → shut_now ≡ true) → (some && not settled_now && not shut_now) ≡ true → (some && not settled && not shut) ≡ true
-pinned_step false settled shut settled_now shut_now more further is = cc
-pinned_step true true shut true shut_now more further is = cc
-pinned_step true true shut false shut_now more further is = absurd (both_ways false refl (more refl))
-pinned_step true false true true shut_now more further is = cc
-pinned_step true false true false true more further is = cc
-pinned_step true false true false false more further is = absurd (both_ways false refl (further refl))
-pinned_step true false false settled_now shut_now more further is = refl
+-- what is of the present session after a deed was so before
+present_earlier : (deed : Deed) (D : List Deed) (one : SentItem) → is_of_present (deed ∷ D) one ≡ true → is_of_present D one ≡ true
+present_earlier deed D one is = is
+
+pinned_step : (some present settled shut present_now settled_now shut_now : Bool) → (present_now ≡ true → present ≡ true) → (settled ≡ true → settled_now ≡ true) → (shut ≡ true → shut_now ≡ true) → (some && present_now && not settled_now && not shut_now) ≡ true → (some && present && not settled && not shut) ≡ true
+pinned_step some present settled shut present_now settled_now shut_now earlier more further is =
+    let parts = and_parts (some && present_now && not settled_now) (not shut_now) is in
+    let first = and_parts (some && present_now) (not settled_now) parts.0 in
+    let base = and_parts some present_now first.0 in
+    and_from (some && present && not settled) (not shut)
+    (and_from (some && present) (not settled) (and_from some present base.0 (earlier base.1)) (still settled settled_now more first.1))
+    (still shut shut_now further parts.1)
+  where
+    still : (before now : Bool) → (before ≡ true → now ≡ true) → not now ≡ true → not before ≡ true
+    still false now more is = refl
+    still true false more is = absurd (both_ways false refl (more refl))
+    still true true more is = cc
 
 -- what has pins after a deed had them before
 pinned_earlier : (deed : Deed) (D : List Deed) (one : SentItem) → is_pinned (deed ∷ D) one ≡ true → is_pinned D one ≡ true
-pinned_earlier deed D one is = pinned_step (is_some_of (counted_in one.item)) (is_settled one.to one.number D) (closed one.to D) (is_settled one.to one.number (deed ∷ D)) (closed one.to (deed ∷ D)) (settled_stays one.to one.number deed D) (closed_stays one.to deed D) is
+pinned_earlier deed D one is =
+    pinned_step (is_some_of (counted_in one.item)) (is_of_present D one) (is_settled one.to one.number D) (closed one.to D)
+    (is_of_present (deed ∷ D) one) (is_settled one.to one.number (deed ∷ D)) (closed one.to (deed ∷ D))
+    (present_earlier deed D one) (settled_stays one.to one.number deed D) (closed_stays one.to deed D) is
 
 -- ---- one deed more
 
@@ -269,9 +281,9 @@ guarded_more s n deed D before new =
     let P : SentItem → Type 0 = λ (one : SentItem). GuardsItem s (deed ∷ D) one.item in
     let more : List Gift = filter (λ (gift : Gift). is_peer s n gift.to) (gifts_of s n deed D (work s n D)) in
     subst (BundlesGuarded s (deed ∷ D)) (sym (bundles_more s n deed D))
-    (all_append P (filter (is_pinned (deed ∷ D)) (sent (history_of s n D))) (filter (is_pinned (deed ∷ D)) (new_items (sent (history_of s n D)) more))
+    (all_append P (filter (is_pinned (deed ∷ D)) (sent (history_of s n D))) (filter (is_pinned (deed ∷ D)) (new_items D (sent (history_of s n D)) more))
     (narrower P (is_pinned (deed ∷ D)) (is_pinned D) (pinned_earlier deed D) (sent (history_of s n D)) before)
-    (all_filter P (is_pinned (deed ∷ D)) (new_items (sent (history_of s n D)) more) (new_guarded s (deed ∷ D) more (sent (history_of s n D)) (all_filter (λ (gift : Gift). GuardsItem s (deed ∷ D) gift.item) (λ (gift : Gift). is_peer s n gift.to) (gifts_of s n deed D (work s n D)) new))))
+    (all_filter P (is_pinned (deed ∷ D)) (new_items D (sent (history_of s n D)) more) (new_guarded s (deed ∷ D) D more (sent (history_of s n D)) (all_filter (λ (gift : Gift). GuardsItem s (deed ∷ D) gift.item) (λ (gift : Gift). is_peer s n gift.to) (gifts_of s n deed D (work s n D)) new))))
 
 -- a deed leaves what is live
 abbrev pub LeavesLive : (s : ℕ) → Deed → List Deed → Type 0

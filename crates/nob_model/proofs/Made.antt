@@ -30,7 +30,7 @@ copy_again s n D copy = ap (λ loan. record { rep = copy.rep; loan = loan }) (lo
 
 message_again : (s n : ℕ) (D : List Deed) (message : Message) → message_after s n D (message_after s n D message) ≡ message_after s n D message
 unfolding message_after
-message_again s n D message = ap (λ copies. record { from = message.from; number = message.number; item = message.item; copies = copies }) (map_again (λ copy. copy_after s n D copy) (copy_again s n D) message.copies)
+message_again s n D message = ap (λ copies. record { from = message.from; session = message.session; number = message.number; item = message.item; copies = copies }) (map_again (λ copy. copy_after s n D copy) (copy_again s n D) message.copies)
 
 run_again : (s n : ℕ) (D : List Deed) (run : Run) → run_after s n D (run_after s n D run) ≡ run_after s n D run
 unfolding run_after

@@ -13,7 +13,7 @@ use Rattle.nob_model_session.specs.declared.entry.EndEntry.TheVariants as ends
 use Rattle.nob_model_session.specs.declared.entry.Arrived.TheVariants as arrived
 use Rattle.nob_model_types.specs.declared.deed.Deed.{Deed}
 use Rattle.nob_model_types.specs.declared.deed.Deed.TheVariants as did
-use Rattle.nob_model_types.specs.Sessions.{item_spelt, item_at}
+use Rattle.nob_model_types.specs.Sessions.{number, item_spelt, item_at}
 use Rattle.nob_model_types.specs.Objects.{exports, is_live}
 use Rattle.nob_model_types.specs.Turns.{turns, is_granted, is_usable}
 use Rattle.nob_model_history.specs.declared.history.History.{History}
@@ -64,9 +64,9 @@ no_fault true reason e = absurd (some_none reason e)
 no_fault false reason e = refl
 
 -- a Settle without a fault is of an item that was sent
-settle_known : (s n p k : ℕ) (item : Item) (D : List Deed) → fault_of s n p item (history_of s n D) ≡ None → is_settle_of k (Some item) ≡ true → k ≤ count_to p (sent (history_of s n D))
+settle_known : (s n p k : ℕ) (item : Item) (D : List Deed) → fault_of s n p item (history_of s n D) ≡ None → is_settle_of k (Some item) ≡ true → k ≤ count_to p (number p D) (sent (history_of s n D))
 unfolding fault_of
-settle_known s n p k (items.Settle m) D none is = subst (λ (j : ℕ). j ≤ count_to p (sent (history_of s n D))) (eqb-true m k is) (bundle_sent s n p m D (not-false (has_bundle p m (history_of s n D)) (no_fault _ OutOfPlace none)))
+settle_known s n p k (items.Settle m) D none is = subst (λ (j : ℕ). j ≤ count_to p (number p D) (sent (history_of s n D))) (eqb-true m k is) (bundle_sent s n p m D (not-false (has_bundle p m (history_of s n D)) (no_fault _ OutOfPlace none)))
 settle_known s n p k (items.Call call target method value) D none is = cc
 settle_known s n p k (items.Reply call status value) D none is = cc
 settle_known s n p k (items.Dirty index) D none is = cc

@@ -30,7 +30,7 @@ use Rattle.nob_model_types.specs.declared.entry.Entry.{Entry}
 use Rattle.nob_model_types.specs.declared.deed.Deed.{Deed}
 use Rattle.nob_model_types.specs.declared.deed.Deed.TheVariants.{Call, Claim}
 use Rattle.nob_model_types.specs.Deeds.{deeds}
-use Rattle.nob_model_types.specs.Sessions.{is_peer, closed, item_spelt}
+use Rattle.nob_model_types.specs.Sessions.{is_peer, closed, number, item_spelt}
 use Rattle.nob_model_types.specs.Objects.{exports, is_live, live}
 use Rattle.nob_model_types.specs.Turns.{is_own, is_resolved}
 use Rattle.nob_model_types.specs.declared.message.Message.{Message}
@@ -153,12 +153,16 @@ claim_of made (Some message) = if nat_le last_number made then Err refusals.Limi
 unfoldable pub right_claim : History → Result Answer Refusal
 right_claim h = claim_of (jobs_made h.deeds) (to_claim h)
 
+-- whether the session in which a message came has ended here: it has closed, or there is another one now
+abbrev pub has_ended : Message → History → Bool
+has_ended message h = closed message.from h.deeds || not (message.session == number message.from h.deeds)
+
 -- what is answered to the end of a job, if it runs
 unfoldable pub finish_of : ℕ → Outcome → Option Run → History → Result Answer Refusal
 finish_of s outcome None h = Err refusals.NoJob
-finish_of s outcome (Some run) h = if closed run.message.from h.deeds then Ok answers.Dropped else unless (value_refused s h (value_of outcome) or_else send_refused run.message.from Limited h) answers.Finished
+finish_of s outcome (Some run) h = if has_ended run.message h then Ok answers.Dropped else unless (value_refused s h (value_of outcome) or_else send_refused run.message.from Limited h) answers.Finished
 
--- Finish: the reply is handed on, or dropped where the session with the client has closed, unless the job isn't running or its reply may not be sent
+-- Finish: the reply is handed on, or dropped where the session of its Call has closed, unless the job isn't running or its reply may not be sent
 unfoldable pub right_finish : (s job : ℕ) → Outcome → History → Result Answer Refusal
 right_finish s job outcome h = finish_of s outcome (find (is_run job) h.work.running) h
 

@@ -381,6 +381,15 @@ fn find_run(job: JobNo, runs: &[Run]) -> Option<&Run>
     }
 }
 
+// Whether the session in which a message came has ended here.
+fn has_ended(message: &Message, history: &History) -> bool
+    ensures { result ≡ words.has_ended message.now history.now }
+{
+    let deeds = history.deeds.as_slice();
+    sessions::closed(message.from, deeds)
+        || message.session != sessions::number(message.from, deeds)
+}
+
 // What is answered to the end of a job that runs.
 #[tactic(auto, unfolding(crate::specs::Right::finish_of))]
 fn finish_of(
@@ -394,7 +403,7 @@ fn finish_of(
         ≡ words.finish_of space outcome.now (Some run.now) history.now) }
 {
     let client = run.message.from;
-    if sessions::closed(client, history.deeds.as_slice()) {
+    if has_ended(&run.message, history) {
         return Ok(Ok(Answer::Dropped));
     }
     if let Some(refusal) = outcome_refused(alloc, space, outcome, history)? {

@@ -9,7 +9,7 @@ use nob_model_history::History;
 use nob_model_history::ends::calls_at;
 use nob_model_history::transit::{count_to, sent};
 use nob_model_session::end::ending;
-use nob_model_types::{Backlog, Deed, Tally, objects};
+use nob_model_types::{Backlog, Deed, Tally, objects, sessions};
 use std::alloc::{AllocError, Global};
 
 // How many items from a peer were acted on.
@@ -34,9 +34,10 @@ pub fn tally(alloc: Global, peer: SpaceId, history: &History) -> Result<Tally, A
     ensures { IfOk result (λ found. found ≡ words.tally peer history.now) }
 {
     let sent_items = sent(alloc, history)?;
+    let session = sessions::number(peer, history.deeds.as_slice());
     let calls = calls_at(alloc, peer, history)?;
     Ok(Tally {
-        sent: count_to(peer, sent_items.as_slice()) as u64,
+        sent: count_to(peer, session, sent_items.as_slice()) as u64,
         acted: acted(peer, history.deeds.as_slice()) as u64,
         closed: ending(calls.as_slice()),
     })

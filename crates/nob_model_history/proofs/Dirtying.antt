@@ -27,16 +27,16 @@ use Rattle.nob_model_history.proofs.Sending.{new_items, sent_more}
 abbrev pub asked_in : List Gift → List WireRep
 asked_in more = filter_map (λ (gift : Gift). asks_for gift.to gift.item) more
 
-new_asked : (more : List Gift) (before : List SentItem) → filter_map (λ (one : SentItem). asks_for one.to one.item) (new_items before more) ≡ asked_in more
-new_asked [] before = refl
-new_asked (gift ∷ more) before = ap (cons_option (asks_for gift.to gift.item)) (new_asked more _)
+new_asked : (D : List Deed) (more : List Gift) (before : List SentItem) → filter_map (λ (one : SentItem). asks_for one.to one.item) (new_items D before more) ≡ asked_in more
+new_asked D [] before = refl
+new_asked D (gift ∷ more) before = ap (cons_option (asks_for gift.to gift.item)) (new_asked D more _)
 
 -- the Dirties of a deed stand behind those before
 pub dirties_more : (s n : ℕ) (deed : Deed) (D : List Deed) → dirties (history_of s n (deed ∷ D)) ≡ dirties (history_of s n D) ++ asked_in (gifts s n deed D (work s n D))
 dirties_more s n deed D =
     ap (filter_map (λ (one : SentItem). asks_for one.to one.item)) (sent_more s n deed D)
-    ∙ filter_map-append (λ (one : SentItem). asks_for one.to one.item) (sent (history_of s n D)) (new_items (sent (history_of s n D)) (gifts s n deed D (work s n D)))
-    ∙ ap (λ (reps : List WireRep). dirties (history_of s n D) ++ reps) (new_asked (gifts s n deed D (work s n D)) (sent (history_of s n D)))
+    ∙ filter_map-append (λ (one : SentItem). asks_for one.to one.item) (sent (history_of s n D)) (new_items D (sent (history_of s n D)) (gifts s n deed D (work s n D)))
+    ∙ ap (λ (reps : List WireRep). dirties (history_of s n D) ++ reps) (new_asked D (gifts s n deed D (work s n D)) (sent (history_of s n D)))
 
 -- Dirties to owners that are peers ask for their references
 asked_step : (s n : ℕ) (test : WireRep → Bool) (rep : WireRep) (reps : List WireRep) → (b : Bool) → (b ≡ true → is_peer s n rep.owner ≡ true) → asked_in (filter (λ (gift : Gift). is_peer s n gift.to) (map dirty_for reps)) ≡ reps → asked_in (filter (λ (gift : Gift). is_peer s n gift.to) (map dirty_for (cond b (rep ∷ reps) reps))) ≡ cond b (rep ∷ reps) reps

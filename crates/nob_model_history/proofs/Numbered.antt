@@ -1,8 +1,9 @@
--- The calls on an end hand on what was sent to its peer, in order, and nothing else.
+-- The calls on an end hand on what was sent to its peer in the present session, in order, and nothing else.
 use Rattle.std.proofs.Common.{◌≡◌, ℕ, ◌+◌, Bool, true, false, cond, List, [], ◌∷◌, ◌++◌, length, map, filter, Ok, refl, sym, ap, ◌∙◌, append_assoc}
-use Rattle.std.specs.Prelude.{◌==◌}
+use Rattle.std.specs.Prelude.{◌==◌, ◌&&◌}
 use Rattle.std.proofs.lemmas.List.{append-nil, length-map, map-append}
 use Rattle.std.proofs.lemmas.List.Elements.{filter-append}
+use Rattle.std.proofs.lemmas.Bool.{eqb-true, eq-eqb}
 use Rattle.nob_ids.specs.declared.reason.Reason.{Reason}
 use Rattle.nob_item.specs.declared.item.Item.{Item}
 use Rattle.nob_model_session.specs.End.{handed}
@@ -12,13 +13,14 @@ use Rattle.nob_model_types.specs.declared.deed.Deed.{Deed}
 use Rattle.nob_model_types.specs.declared.deed.Deed.TheVariants as did
 use Rattle.nob_model_types.specs.declared.deed.Cause.{Cause}
 use Rattle.nob_model_types.specs.declared.deed.Cause.TheVariants as causes
+use Rattle.nob_model_types.specs.Sessions.{number}
 use Rattle.nob_model_work.specs.declared.gifts.Gift.{Gift}
 use Rattle.nob_model_work.specs.Work.{work}
 use Rattle.nob_model_work.specs.Gifts.{gifts}
 use Rattle.nob_model_history.specs.declared.transit.SentItem.{SentItem}
 use Rattle.nob_model_history.specs.Histories.{history_of}
 use Rattle.nob_model_history.specs.Ends.{items_to, payload_of, kind_of, with_sends, own_calls, call_of_closing, calls_at}
-use Rattle.nob_model_history.specs.Transit.{count_to, with_gifts, sent}
+use Rattle.nob_model_history.specs.Transit.{is_sent_to, count_to, next_sent, with_gifts, sent}
 
 -- ---- what is handed
 
@@ -60,33 +62,79 @@ one_more_to true one gift rest same before = append_assoc before (one.item ∷ [
 one_more_to false one gift rest same before = ap (λ (items : List Item). items ++ map (λ (x : Gift). x.item) rest) (append-nil before)
 
 -- gifts to p are sent behind what was sent to it before
-pub gifts_sent_to : (p : ℕ) (gifts : List Gift) (before : List SentItem) → items_sent_to p (with_gifts before gifts) ≡ items_sent_to p before ++ items_to p gifts
-gifts_sent_to p [] before = sym (append-nil _)
-gifts_sent_to p (gift ∷ gifts) before =
-    let one : SentItem = record { to = gift.to; number = count_to gift.to before + 1; item = gift.item } in
-    gifts_sent_to p gifts (before ++ one ∷ [])
+pub gifts_sent_to : (p : ℕ) (D : List Deed) (gifts : List Gift) (before : List SentItem) → items_sent_to p (with_gifts D before gifts) ≡ items_sent_to p before ++ items_to p gifts
+gifts_sent_to p D [] before = sym (append-nil _)
+gifts_sent_to p D (gift ∷ gifts) before =
+    let one : SentItem = next_sent D before gift in
+    gifts_sent_to p D gifts (before ++ one ∷ [])
     ∙ ap (λ (items : List Item). items ++ items_to p gifts) (ap (map (λ (x : SentItem). x.item)) (filter-append (λ (x : SentItem). x.to == p) before (one ∷ [])) ∙ map-append (λ (x : SentItem). x.item) (filter (λ (x : SentItem). x.to == p) before) _)
     ∙ one_more_to (gift.to == p) one gift (filter (λ (x : Gift). x.to == p) gifts) refl (items_sent_to p before)
 
+-- ---- what is sent in a session
+
+-- the items of those that went to p in session k
+abbrev pub items_sent_in : (p k : ℕ) → List SentItem → List Item
+items_sent_in p k sent_items = map (λ (one : SentItem). one.item) (filter (is_sent_to p k) sent_items)
+
+-- a gift to p is sent in session k where that is the present one
+next_in : (p k : ℕ) (D : List Deed) (before : List SentItem) (gift : Gift) → is_sent_to p k (next_sent D before gift) ≡ (gift.to == p && number p D == k)
+next_in p k D before gift = elim (gift.to == p) as (λ (b : Bool). (gift.to == p) ≡ b → (b && number gift.to D == k) ≡ (b && number p D == k)) [
+  | true ↦ λ own. ap (λ (q : ℕ). number q D == k) (eqb-true gift.to p own)
+  | false ↦ λ other. refl
+] refl
+
+one_more_in : (b now : Bool) (one : SentItem) (gift : Gift) (rest : List Gift) → one.item ≡ gift.item → (before : List Item) → (before ++ map (λ (x : SentItem). x.item) (cond (b && now) (one ∷ []) [])) ++ cond now (map (λ (x : Gift). x.item) rest) [] ≡ before ++ cond now (map (λ (x : Gift). x.item) (cond b (gift ∷ rest) rest)) []
+one_more_in b true one gift rest same before = ap (λ (c : Bool). (before ++ map (λ (x : SentItem). x.item) (cond c (one ∷ []) [])) ++ map (λ (x : Gift). x.item) rest) (and_true b) ∙ one_more_to b one gift rest same before
+  where
+    and_true : (c : Bool) → (c && true) ≡ c
+    and_true true = refl
+    and_true false = refl
+one_more_in true false one gift rest same before = append-nil (before ++ [])
+one_more_in false false one gift rest same before = append-nil (before ++ [])
+
+none_more : (now : Bool) (items : List Item) → items ++ cond now [] [] ≡ items
+none_more true items = append-nil items
+none_more false items = append-nil items
+
+-- gifts to p are sent in the present session, behind what was sent to it there before, and in no other
+pub gifts_sent_in : (p k : ℕ) (D : List Deed) (gifts : List Gift) (before : List SentItem) → items_sent_in p k (with_gifts D before gifts) ≡ items_sent_in p k before ++ cond (number p D == k) (items_to p gifts) []
+gifts_sent_in p k D [] before = sym (none_more (number p D == k) (items_sent_in p k before))
+gifts_sent_in p k D (gift ∷ gifts) before =
+    let one : SentItem = next_sent D before gift in
+    gifts_sent_in p k D gifts (before ++ one ∷ [])
+    ∙ ap (λ (items : List Item). items ++ cond (number p D == k) (items_to p gifts) []) (ap (map (λ (x : SentItem). x.item)) (filter-append (is_sent_to p k) before (one ∷ [])) ∙ map-append (λ (x : SentItem). x.item) (filter (is_sent_to p k) before) _)
+    ∙ ap (λ (b : Bool). (items_sent_in p k before ++ map (λ (x : SentItem). x.item) (cond b (one ∷ []) [])) ++ cond (number p D == k) (items_to p gifts) []) (next_in p k D before gift)
+    ∙ one_more_in (gift.to == p) (number p D == k) one gift (filter (λ (x : Gift). x.to == p) gifts) refl (items_sent_in p k before)
+
+-- so all gifts to p stand behind what was sent to it in the present session
+pub gifts_sent_now : (p : ℕ) (D : List Deed) (gifts : List Gift) (before : List SentItem) → items_sent_in p (number p D) (with_gifts D before gifts) ≡ items_sent_in p (number p D) before ++ items_to p gifts
+gifts_sent_now p D gifts before =
+    gifts_sent_in p (number p D) D gifts before
+    ∙ ap (λ (now : Bool). items_sent_in p (number p D) before ++ cond now (items_to p gifts) []) (eq-eqb (number p D) (number p D) refl)
+
 -- ---- both
 
--- what is handed on the end with p are the payloads of what was sent to p, in order
-pub payloads_handed : (s n p : ℕ) (D : List Deed) → handed (calls_at p (history_of s n D)) ≡ map payload_of (items_sent_to p (sent (history_of s n D)))
+-- one deed more leaves what is handed, and the number of the session
+payloads_kept : (p : ℕ) (deed : Deed) (D : List Deed) (calls : List EndEntry) (all : List SentItem) → handed calls ≡ map payload_of (items_sent_in p (number p D) all) → handed (own_calls p deed calls) ≡ map payload_of (items_sent_in p (number p (deed ∷ D)) all)
+payloads_kept p deed D calls all are = own_handed p deed calls ∙ are
+
+-- what is handed on the end with p are the payloads of what was sent to p in the present session, in order
+pub payloads_handed : (s n p : ℕ) (D : List Deed) → handed (calls_at p (history_of s n D)) ≡ map payload_of (items_sent_in p (number p D) (sent (history_of s n D)))
 payloads_handed s n p [] = refl
 payloads_handed s n p (deed ∷ D) =
     let more = gifts s n deed D (work s n D) in
-    own_handed p deed (with_sends (items_to p more) (calls_at p (history_of s n D)))
-    ∙ sends_handed (items_to p more) (calls_at p (history_of s n D))
+    payloads_kept p deed D (with_sends (items_to p more) (calls_at p (history_of s n D))) (with_gifts D (sent (history_of s n D)) more)
+    (sends_handed (items_to p more) (calls_at p (history_of s n D))
     ∙ ap (λ (payloads : List (List ℕ)). payloads ++ map payload_of (items_to p more)) (payloads_handed s n p D)
-    ∙ sym (map-append payload_of (items_sent_to p (sent (history_of s n D))) (items_to p more))
-    ∙ ap (map payload_of) (sym (gifts_sent_to p more (sent (history_of s n D))))
+    ∙ sym (map-append payload_of (items_sent_in p (number p D) (sent (history_of s n D))) (items_to p more))
+    ∙ ap (map payload_of) (sym (gifts_sent_now p D more (sent (history_of s n D)))))
 
--- as many items are handed on the end with p as were sent to p
-pub count_handed : (s n p : ℕ) (D : List Deed) → length (handed (calls_at p (history_of s n D))) ≡ count_to p (sent (history_of s n D))
+-- as many items are handed on the end with p as were sent to p in the present session
+pub count_handed : (s n p : ℕ) (D : List Deed) → length (handed (calls_at p (history_of s n D))) ≡ count_to p (number p D) (sent (history_of s n D))
 count_handed s n p D =
     ap length (payloads_handed s n p D)
-    ∙ length-map (items_sent_to p (sent (history_of s n D))) payload_of
-    ∙ length-map (filter (λ (x : SentItem). x.to == p) (sent (history_of s n D))) (λ (x : SentItem). x.item)
+    ∙ length-map (items_sent_in p (number p D) (sent (history_of s n D))) payload_of
+    ∙ length-map (filter (is_sent_to p (number p D)) (sent (history_of s n D))) (λ (x : SentItem). x.item)
 
 -- ---- one deed more
 

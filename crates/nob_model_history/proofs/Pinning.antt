@@ -12,16 +12,16 @@ use Rattle.nob_ids.specs.declared.reason.Reason.{Reason}
 use Rattle.nob_model_types.specs.declared.deed.Deed.{Deed}
 use Rattle.nob_model_types.specs.declared.deed.Deed.TheVariants as did
 use Rattle.nob_model_types.specs.declared.deed.Cause.{Cause}
-use Rattle.nob_model_types.specs.Sessions.{closed, item_at}
+use Rattle.nob_model_types.specs.Sessions.{closed, number, item_at}
 use Rattle.nob_model_work.specs.declared.gifts.Gift.{Gift}
 use Rattle.nob_model_work.specs.declared.work.Outstanding.{Outstanding}
 use Rattle.nob_model_work.specs.Work.{work}
 use Rattle.nob_model_work.specs.Gifts.{gifts, gifts_of, gifts_of_act}
 use Rattle.nob_model_history.specs.declared.transit.SentItem.{SentItem}
 use Rattle.nob_model_history.specs.Histories.{history_of}
-use Rattle.nob_model_history.specs.Transit.{count_to, sent, is_pinned, is_settled, is_settle_of, is_some_of, bundles, has_bundle}
+use Rattle.nob_model_history.specs.Transit.{is_sent_to, count_to, sent, is_of_present, is_pinned, is_settled, is_settle_of, is_some_of, bundles, has_bundle}
 use Rattle.nob_model_history.specs.Premises.{SettlesSent}
-use Rattle.nob_model_history.proofs.Sending.{new_items, sent_more, counted_sent, new_numbers}
+use Rattle.nob_model_history.proofs.Sending.{new_items, sent_more, new_present, counted_sent, new_numbers}
 
 -- ---- filters
 
@@ -49,23 +49,24 @@ flip_test a b =
 -- ---- one deed more
 
 -- what was sent and has pins, and what is sent now and has them
-pub bundles_more : (s n : ℕ) (deed : Deed) (D : List Deed) → bundles (history_of s n (deed ∷ D)) ≡ filter (is_pinned (deed ∷ D)) (sent (history_of s n D)) ++ filter (is_pinned (deed ∷ D)) (new_items (sent (history_of s n D)) (gifts s n deed D (work s n D)))
+pub bundles_more : (s n : ℕ) (deed : Deed) (D : List Deed) → bundles (history_of s n (deed ∷ D)) ≡ filter (is_pinned (deed ∷ D)) (sent (history_of s n D)) ++ filter (is_pinned (deed ∷ D)) (new_items D (sent (history_of s n D)) (gifts s n deed D (work s n D)))
 bundles_more s n deed D =
     ap (filter (is_pinned (deed ∷ D))) (sent_more s n deed D)
-    ∙ filter-append (is_pinned (deed ∷ D)) (sent (history_of s n D)) (new_items (sent (history_of s n D)) (gifts s n deed D (work s n D)))
+    ∙ filter-append (is_pinned (deed ∷ D)) (sent (history_of s n D)) (new_items D (sent (history_of s n D)) (gifts s n deed D (work s n D)))
 
--- a deed that settles nothing and closes nothing changes no pin
-pub same_pins : (deed : Deed) (D : List Deed) → ((p k : ℕ) → is_settled p k (deed ∷ D) ≡ is_settled p k D) → ((p : ℕ) → closed p (deed ∷ D) ≡ closed p D) → (one : SentItem) → is_pinned (deed ∷ D) one ≡ is_pinned D one
-same_pins deed D settled ended one =
-    ap (λ (b : Bool). is_some_of (counted_in one.item) && not b && not (closed one.to (deed ∷ D))) (settled one.to one.number)
-    ∙ ap (λ (b : Bool). is_some_of (counted_in one.item) && not (is_settled one.to one.number D) && not b) (ended one.to)
+-- a deed that settles nothing, closes nothing and opens nothing changes no pin
+pub same_pins : (deed : Deed) (D : List Deed) → ((p k : ℕ) → is_settled p k (deed ∷ D) ≡ is_settled p k D) → ((p : ℕ) → closed p (deed ∷ D) ≡ closed p D) → ((p : ℕ) → number p (deed ∷ D) ≡ number p D) → (one : SentItem) → is_pinned (deed ∷ D) one ≡ is_pinned D one
+same_pins deed D settled ended same one =
+    ap (λ (k : ℕ). is_some_of (counted_in one.item) && one.session == k && not (is_settled one.to one.number (deed ∷ D)) && not (closed one.to (deed ∷ D))) (same one.to)
+    ∙ ap (λ (b : Bool). is_some_of (counted_in one.item) && is_of_present D one && not b && not (closed one.to (deed ∷ D))) (settled one.to one.number)
+    ∙ ap (λ (b : Bool). is_some_of (counted_in one.item) && is_of_present D one && not (is_settled one.to one.number D) && not b) (ended one.to)
 
 -- so the bundles stay, and what it gives stands behind them
-pub bundles_kept : (s n : ℕ) (deed : Deed) (D : List Deed) → ((p k : ℕ) → is_settled p k (deed ∷ D) ≡ is_settled p k D) → ((p : ℕ) → closed p (deed ∷ D) ≡ closed p D) → bundles (history_of s n (deed ∷ D)) ≡ bundles (history_of s n D) ++ filter (is_pinned D) (new_items (sent (history_of s n D)) (gifts s n deed D (work s n D)))
-bundles_kept s n deed D settled ended =
+pub bundles_kept : (s n : ℕ) (deed : Deed) (D : List Deed) → ((p k : ℕ) → is_settled p k (deed ∷ D) ≡ is_settled p k D) → ((p : ℕ) → closed p (deed ∷ D) ≡ closed p D) → ((p : ℕ) → number p (deed ∷ D) ≡ number p D) → bundles (history_of s n (deed ∷ D)) ≡ bundles (history_of s n D) ++ filter (is_pinned D) (new_items D (sent (history_of s n D)) (gifts s n deed D (work s n D)))
+bundles_kept s n deed D settled ended same =
     bundles_more s n deed D
-    ∙ ap (λ (xs : List SentItem). xs ++ filter (is_pinned (deed ∷ D)) (new_items (sent (history_of s n D)) (gifts s n deed D (work s n D)))) (filter_same _ _ (same_pins deed D settled ended) (sent (history_of s n D)))
-    ∙ ap (λ (xs : List SentItem). bundles (history_of s n D) ++ xs) (filter_same _ _ (same_pins deed D settled ended) (new_items (sent (history_of s n D)) (gifts s n deed D (work s n D))))
+    ∙ ap (λ (xs : List SentItem). xs ++ filter (is_pinned (deed ∷ D)) (new_items D (sent (history_of s n D)) (gifts s n deed D (work s n D)))) (filter_same _ _ (same_pins deed D settled ended same) (sent (history_of s n D)))
+    ∙ ap (λ (xs : List SentItem). bundles (history_of s n D) ++ xs) (filter_same _ _ (same_pins deed D settled ended same) (new_items D (sent (history_of s n D)) (gifts s n deed D (work s n D))))
 
 -- acting on an item that is no Settle settles nothing
 pub no_settle : (p j : ℕ) (D : List Deed) → ((k : ℕ) → is_settle_of k (item_at p j D) ≡ false) → (q k : ℕ) → is_settled q k (did.Act p j ∷ D) ≡ is_settled q k D
@@ -95,11 +96,11 @@ pub bundles_settled : (s n p j k : ℕ) (D : List Deed) → item_at p j D ≡ So
 bundles_settled s n p j k D is =
     let test : SentItem → Bool = λ (one : SentItem). one.to == p && one.number == k in
     let each : (one : SentItem) → is_pinned (did.Act p j ∷ D) one ≡ (is_pinned D one && not (test one)) = λ one.
-    ap (λ (b : Bool). is_some_of (counted_in one.item) && not ((p == one.to && b) || is_settled one.to one.number D) && not (closed one.to D)) (ap (is_settle_of one.number) is ∙ flip_test k one.number)
-    ∙ ap (λ (b : Bool). is_some_of (counted_in one.item) && not ((b && one.number == k) || is_settled one.to one.number D) && not (closed one.to D)) (flip_test p one.to)
-    ∙ without_one (is_some_of (counted_in one.item)) (test one) (is_settled one.to one.number D) (closed one.to D) in
+    ap (λ (b : Bool). is_some_of (counted_in one.item) && is_of_present D one && not ((p == one.to && b) || is_settled one.to one.number D) && not (closed one.to D)) (ap (is_settle_of one.number) is ∙ flip_test k one.number)
+    ∙ ap (λ (b : Bool). is_some_of (counted_in one.item) && is_of_present D one && not ((b && one.number == k) || is_settled one.to one.number D) && not (closed one.to D)) (flip_test p one.to)
+    ∙ without_one (is_some_of (counted_in one.item) && is_of_present D one) (test one) (is_settled one.to one.number D) (closed one.to D) in
     bundles_more s n (did.Act p j) D
-    ∙ ap (λ (more : List Gift). filter (is_pinned (did.Act p j ∷ D)) (sent (history_of s n D)) ++ filter (is_pinned (did.Act p j ∷ D)) (new_items (sent (history_of s n D)) more)) (settle_gives_nothing s n p j k D (work s n D) is)
+    ∙ ap (λ (more : List Gift). filter (is_pinned (did.Act p j ∷ D)) (sent (history_of s n D)) ++ filter (is_pinned (did.Act p j ∷ D)) (new_items D (sent (history_of s n D)) more)) (settle_gives_nothing s n p j k D (work s n D) is)
     ∙ append-nil (filter (is_pinned (did.Act p j ∷ D)) (sent (history_of s n D)))
     ∙ filter_same _ _ each (sent (history_of s n D))
     ∙ filter_and (is_pinned D) (λ (one : SentItem). not (test one)) (sent (history_of s n D))
@@ -122,80 +123,99 @@ without_peer true false false false = refl
 pub bundles_closed : (s n p : ℕ) (reason : Reason) (cause : Cause) (D : List Deed) → bundles (history_of s n (did.Closing p reason cause ∷ D)) ≡ filter (λ (one : SentItem). not (one.to == p)) (bundles (history_of s n D))
 bundles_closed s n p reason cause D =
     let each : (one : SentItem) → is_pinned (did.Closing p reason cause ∷ D) one ≡ (is_pinned D one && not (one.to == p)) = λ one.
-    ap (λ (b : Bool). is_some_of (counted_in one.item) && not (is_settled one.to one.number D) && not (b || closed one.to D)) (flip_test p one.to)
-    ∙ without_peer (is_some_of (counted_in one.item)) (is_settled one.to one.number D) (one.to == p) (closed one.to D) in
+    ap (λ (b : Bool). is_some_of (counted_in one.item) && is_of_present D one && not (is_settled one.to one.number D) && not (b || closed one.to D)) (flip_test p one.to)
+    ∙ without_peer (is_some_of (counted_in one.item) && is_of_present D one) (is_settled one.to one.number D) (one.to == p) (closed one.to D) in
     bundles_more s n (did.Closing p reason cause) D
-    ∙ ap (λ (more : List Gift). filter (is_pinned (did.Closing p reason cause ∷ D)) (sent (history_of s n D)) ++ filter (is_pinned (did.Closing p reason cause ∷ D)) (new_items (sent (history_of s n D)) more)) (closing_gives_nothing s n p reason cause D (work s n D))
+    ∙ ap (λ (more : List Gift). filter (is_pinned (did.Closing p reason cause ∷ D)) (sent (history_of s n D)) ++ filter (is_pinned (did.Closing p reason cause ∷ D)) (new_items D (sent (history_of s n D)) more)) (closing_gives_nothing s n p reason cause D (work s n D))
     ∙ append-nil (filter (is_pinned (did.Closing p reason cause ∷ D)) (sent (history_of s n D)))
     ∙ filter_same _ _ each (sent (history_of s n D))
     ∙ filter_and (is_pinned D) (λ (one : SentItem). not (one.to == p)) (sent (history_of s n D))
 
 -- ---- what is sent has pins at once
 
-count_append : (p : ℕ) (xs ys : List SentItem) → count_to p (xs ++ ys) ≡ count_to p xs + count_to p ys
-count_append p xs ys = ap length (filter-append (λ (x : SentItem). x.to == p) xs ys) ∙ length-append (filter (λ (x : SentItem). x.to == p) xs) (filter (λ (x : SentItem). x.to == p) ys)
+count_append : (p k : ℕ) (xs ys : List SentItem) → count_to p k (xs ++ ys) ≡ count_to p k xs + count_to p k ys
+count_append p k xs ys = ap length (filter-append (is_sent_to p k) xs ys) ∙ length-append (filter (is_sent_to p k) xs) (filter (is_sent_to p k) ys)
 
 -- by one deed more no fewer items were sent
-sent_no_fewer : (s n p : ℕ) (deed : Deed) (D : List Deed) → count_to p (sent (history_of s n D)) ≤ count_to p (sent (history_of s n (deed ∷ D)))
-sent_no_fewer s n p deed D = let all = ap (count_to p) (sent_more s n deed D) ∙ count_append p (sent (history_of s n D)) (new_items (sent (history_of s n D)) (gifts s n deed D (work s n D))) in omega (arith, all)
+sent_no_fewer : (s n p k : ℕ) (deed : Deed) (D : List Deed) → count_to p k (sent (history_of s n D)) ≤ count_to p k (sent (history_of s n (deed ∷ D)))
+sent_no_fewer s n p k deed D = let all = ap (count_to p k) (sent_more s n deed D) ∙ count_append p k (sent (history_of s n D)) (new_items D (sent (history_of s n D)) (gifts s n deed D (work s n D))) in omega (arith, all)
 
-settled_now : (s n p k q j : ℕ) (D : List Deed) → ((m : ℕ) → is_settle_of m (item_at q j D) ≡ true → m ≤ count_to q (sent (history_of s n D))) → (is_settled p k D ≡ true → k ≤ count_to p (sent (history_of s n D))) → (now earlier : Bool) → (q == p && is_settle_of k (item_at q j D)) ≡ now → is_settled p k D ≡ earlier → (now || earlier) ≡ true → k ≤ count_to p (sent (history_of s n D))
+-- how many items were sent to p in the present session
+abbrev count_now : (s n p : ℕ) → List Deed → ℕ
+count_now s n p D = count_to p (number p D) (sent (history_of s n D))
+
+settled_now : (s n p k q j : ℕ) (D : List Deed) → ((m : ℕ) → is_settle_of m (item_at q j D) ≡ true → m ≤ count_now s n q D) → (is_settled p k D ≡ true → k ≤ count_now s n p D) → (now earlier : Bool) → (q == p && is_settle_of k (item_at q j D)) ≡ now → is_settled p k D ≡ earlier → (now || earlier) ≡ true → k ≤ count_now s n p D
 settled_now s n p k q j D known before true earlier is was either =
     let parts = and_parts (q == p) (is_settle_of k (item_at q j D)) is in
-    subst (λ (r : ℕ). k ≤ count_to r (sent (history_of s n D))) (eqb-true q p parts.0) (known k parts.1)
+    subst (λ (r : ℕ). k ≤ count_now s n r D) (eqb-true q p parts.0) (known k parts.1)
 settled_now s n p k q j D known before false earlier is was either = before (was ∙ either)
 
 -- what was settled was sent
-pub settled_sent : (s n p k : ℕ) (D : List Deed) → SettlesSent s n D → is_settled p k D ≡ true → k ≤ count_to p (sent (history_of s n D))
+pub settled_sent : (s n p k : ℕ) (D : List Deed) → SettlesSent s n D → is_settled p k D ≡ true → k ≤ count_to p (number p D) (sent (history_of s n D))
 settled_sent s n p k [] known settled = cc
 settled_sent s n p k (did.Act q j ∷ D) known settled =
     let before = settled_now s n p k q j D known.0 (settled_sent s n p k D known.1) (q == p && is_settle_of k (item_at q j D)) (is_settled p k D) refl refl settled in
-    let more = sent_no_fewer s n p (did.Act q j) D in
+    let more = sent_no_fewer s n p (number p D) (did.Act q j) D in
     omega (arith, before, more)
 settled_sent s n p k (deed ∷ D) known settled =
     let before = settled_sent s n p k D known settled in
-    let more = sent_no_fewer s n p deed D in
+    let more = sent_no_fewer s n p (number p D) deed D in
     omega (arith, before, more)
 
-without_true : (a c : Bool) → (a && true && c) ≡ (a && c)
-without_true true c = refl
-without_true false c = refl
+pinned_now : (a present settled c : Bool) → present ≡ true → settled ≡ false → (a && present && not settled && not c) ≡ (a && not c)
+pinned_now true true false c is free = refl
+pinned_now false present settled c is free = refl
+pinned_now true false settled c is free = cc
+pinned_now true true true c is free = cc
 
 filter_same_on : {A : Type 0} (p q : A → Bool) (xs : List A) → AllByRecursion (λ x. p x ≡ q x) xs → filter p xs ≡ filter q xs
 filter_same_on p q [] same = refl
 filter_same_on p q (x ∷ xs) same = ap (λ (b : Bool). cond b (x ∷ filter p xs) (filter p xs)) same.0 ∙ ap (λ ys. cond (q x) (x ∷ ys) ys) (filter_same_on p q xs same.1)
 
-all_weaker : {X : Type 0} (P Q : X → Type 0) → ((x : X) → P x → Q x) → (xs : List X) → AllByRecursion P xs → AllByRecursion Q xs
-all_weaker P Q f [] h = tt
-all_weaker P Q f (x ∷ xs) h = (f x h.0, all_weaker P Q f xs h.1)
+all_both : {X : Type 0} (P Q R : X → Type 0) → ((x : X) → P x → Q x → R x) → (xs : List X) → AllByRecursion P xs → AllByRecursion Q xs → AllByRecursion R xs
+all_both P Q R f [] p q = tt
+all_both P Q R f (x ∷ xs) p q = (f x p.0 q.0, all_both P Q R f xs p.1 q.1)
 
 -- whether what was sent carries counted references to a peer whose session is open here
 abbrev pub takes_pins : List Deed → SentItem → Bool
 takes_pins D one = is_some_of (counted_in one.item) && not (closed one.to D)
 
 -- what is sent now has pins if it carries counted references and its session is open here
-pub new_pins : (s n : ℕ) (D : List Deed) → SettlesSent s n D → (gifts : List Gift) → filter (is_pinned D) (new_items (sent (history_of s n D)) gifts) ≡ filter (takes_pins D) (new_items (sent (history_of s n D)) gifts)
+pub new_pins : (s n : ℕ) (D : List Deed) → SettlesSent s n D → (gifts : List Gift) → filter (is_pinned D) (new_items D (sent (history_of s n D)) gifts) ≡ filter (takes_pins D) (new_items D (sent (history_of s n D)) gifts)
 new_pins s n D known more =
-    filter_same_on (is_pinned D) (takes_pins D) (new_items (sent (history_of s n D)) more)
-    (all_weaker _ _ (λ one above. ap (λ (b : Bool). is_some_of (counted_in one.item) && not b && not (closed one.to D)) (false_from_ne_true _ (λ settled. let before = settled_sent s n one.to one.number D known settled in omega (arith, before, above))) ∙ without_true (is_some_of (counted_in one.item)) (not (closed one.to D))) _ (new_numbers more (sent (history_of s n D))))
+    filter_same_on (is_pinned D) (takes_pins D) (new_items D (sent (history_of s n D)) more)
+    (all_both _ _ _
+    (λ one above present.
+    let same : count_to one.to one.session (sent (history_of s n D)) ≡ count_now s n one.to D = ap (λ (k : ℕ). count_to one.to k (sent (history_of s n D))) (eqb-true one.session (number one.to D) present) in
+    pinned_now (is_some_of (counted_in one.item)) (is_of_present D one) (is_settled one.to one.number D) (closed one.to D) present
+    (false_from_ne_true _ (λ settled. let before = settled_sent s n one.to one.number D known settled in omega (arith, before, above, same))))
+    _ (new_numbers D more (sent (history_of s n D))) (new_present D more (sent (history_of s n D))))
 
 -- ---- a bundle is of an item that was sent
 
-found_step : {A : Type 0} (P : A → Type 0) (G : Type 0) (test : A → Bool) → ((x : A) → P x → test x ≡ true → G) → (x : A) (ys : List A) → P x → (is_some_of (filter test ys) ≡ true → G) → (a b : Bool) → test x ≡ b → is_some_of (filter test (cond a (x ∷ ys) ys)) ≡ true → G
-found_step P G test found x ys holds rest true true is some = found x holds is
-found_step P G test found x ys holds rest true false is some = rest (ap (λ (b : Bool). is_some_of (cond b (x ∷ filter test ys) (filter test ys))) (sym is) ∙ some)
-found_step P G test found x ys holds rest false b is some = rest some
+found_step : {A : Type 0} (P : A → Type 0) (G : Type 0) (first test : A → Bool) → ((x : A) → P x → first x ≡ true → test x ≡ true → G) → (x : A) (ys : List A) → P x → (is_some_of (filter test ys) ≡ true → G) → (a b : Bool) → first x ≡ a → test x ≡ b → is_some_of (filter test (cond a (x ∷ ys) ys)) ≡ true → G
+found_step P G first test found x ys holds rest true true passes is some = found x holds passes is
+found_step P G first test found x ys holds rest true false passes is some = rest (ap (λ (b : Bool). is_some_of (cond b (x ∷ filter test ys) (filter test ys))) (sym is) ∙ some)
+found_step P G first test found x ys holds rest false b passes is some = rest some
 
-found_in : {A : Type 0} (P : A → Type 0) (G : Type 0) (first test : A → Bool) → ((x : A) → P x → test x ≡ true → G) → (xs : List A) → AllByRecursion P xs → is_some_of (filter test (filter first xs)) ≡ true → G
+found_in : {A : Type 0} (P : A → Type 0) (G : Type 0) (first test : A → Bool) → ((x : A) → P x → first x ≡ true → test x ≡ true → G) → (xs : List A) → AllByRecursion P xs → is_some_of (filter test (filter first xs)) ≡ true → G
 found_in P G first test found [] all some = cc
-found_in P G first test found (x ∷ xs) all some = found_step P G test found x (filter first xs) all.0 (found_in P G first test found xs all.1) (first x) (test x) refl some
+found_in P G first test found (x ∷ xs) all some = found_step P G first test found x (filter first xs) all.0 (found_in P G first test found xs all.1) (first x) (test x) refl refl some
 
--- the number of a bundle is no greater than how many items were sent
-pub bundle_sent : (s n p k : ℕ) (D : List Deed) → has_bundle p k (history_of s n D) ≡ true → k ≤ count_to p (sent (history_of s n D))
+-- what has pins was sent in the present session
+pub pinned_present : (D : List Deed) (one : SentItem) → is_pinned D one ≡ true → is_of_present D one ≡ true
+pinned_present D one pinned = (and_parts (is_some_of (counted_in one.item)) (is_of_present D one) (and_parts _ (not (is_settled one.to one.number D)) (and_parts _ (not (closed one.to D)) pinned).0).0).1
+
+-- the number of a bundle is no greater than how many items were sent in the present session
+pub bundle_sent : (s n p k : ℕ) (D : List Deed) → has_bundle p k (history_of s n D) ≡ true → k ≤ count_to p (number p D) (sent (history_of s n D))
 bundle_sent s n p k D has =
-    found_in (λ (one : SentItem). one.number ≤ count_to one.to (sent (history_of s n D))) (k ≤ count_to p (sent (history_of s n D))) (is_pinned D) (λ (one : SentItem). one.to == p && one.number == k)
-    (λ one below test.
+    let S : List SentItem = sent (history_of s n D) in
+    found_in (λ (one : SentItem). one.number ≤ count_to one.to one.session S) (k ≤ count_to p (number p D) S) (is_pinned D) (λ (one : SentItem). one.to == p && one.number == k)
+    (λ one below pinned test.
     let parts = and_parts (one.to == p) (one.number == k) test in
-    let there : one.number ≤ count_to p (sent (history_of s n D)) = subst (λ (q : ℕ). one.number ≤ count_to q (sent (history_of s n D))) (eqb-true one.to p parts.0) below in
-    subst (λ (m : ℕ). m ≤ count_to p (sent (history_of s n D))) (eqb-true one.number k parts.1) there)
-    (sent (history_of s n D)) (counted_sent s n D) has
+    let to : one.to ≡ p = eqb-true one.to p parts.0 in
+    let is : one.number ≡ k = eqb-true one.number k parts.1 in
+    let session : one.session ≡ number p D = eqb-true one.session (number one.to D) (pinned_present D one pinned) ∙ ap (λ (q : ℕ). number q D) to in
+    let same : count_to one.to one.session S ≡ count_to p (number p D) S = λ i. count_to (to i) (session i) S in
+    omega (arith, below, is, same))
+    S (counted_sent s n D) has

@@ -5,7 +5,7 @@ use Rattle.nob_item.specs.declared.item.Item.TheVariants as items
 use Rattle.nob_model_session.specs.Accepting.{AcceptsWhatCame}
 use Rattle.nob_model_session.specs.declared.entry.Arrived.TheVariants as arrived
 use Rattle.nob_model_session.specs.declared.entry.EndEntry.TheVariants as ends
-use Rattle.nob_model_types.specs.Sessions.{item_at}
+use Rattle.nob_model_types.specs.Sessions.{number, item_at}
 use Rattle.nob_model_types.specs.Objects.{exports, is_live}
 use Rattle.nob_model_types.specs.Turns.{turns, is_pending, is_granted}
 use Rattle.nob_model_types.specs.declared.deed.Deed.{Deed}
@@ -27,7 +27,7 @@ InTurn s n (deed ∷ D) = AcceptsNext s n deed D × InTurn s n D
 -- each Settle that was acted on was of an item that was sent before
 abbrev pub SettlesSent : (s n : ℕ) → List Deed → Type 0
 SettlesSent s n [] = ⊤
-SettlesSent s n (Act p j ∷ D) = ((k : ℕ) → is_settle_of k (item_at p j D) ≡ true → k ≤ count_to p (sent (history_of s n D))) × SettlesSent s n D
+SettlesSent s n (Act p j ∷ D) = ((k : ℕ) → is_settle_of k (item_at p j D) ≡ true → k ≤ count_to p (number p D) (sent (history_of s n D))) × SettlesSent s n D
 SettlesSent s n (_ ∷ D) = SettlesSent s n D
 
 -- an item from p is an answer only to a Dirty that waits for one

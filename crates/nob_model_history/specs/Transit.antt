@@ -8,30 +8,49 @@ use Rattle.nob_item.specs.declared.item.Item.{Item}
 use Rattle.nob_item.specs.declared.item.Item.TheVariants as items
 use Rattle.nob_model_types.specs.declared.deed.Deed.{Deed}
 use Rattle.nob_model_types.specs.declared.deed.Deed.TheVariants.{Act}
-use Rattle.nob_model_types.specs.Sessions.{closed, item_at}
+use Rattle.nob_model_types.specs.Sessions.{closed, number, item_at}
 use Rattle.nob_model_types.specs.Turns.{turns, is_standing, is_usable}
 use Rattle.nob_model_work.specs.declared.gifts.Gift.{Gift}
 use Rattle.nob_model_history.specs.declared.history.History.{History}
 use Rattle.nob_model_history.specs.declared.transit.SentItem.{SentItem}
 use Rattle.nob_model_history.specs.Holds.{times, is_held}
 
--- how many items were sent to p
-abbrev pub count_to : ℕ → List SentItem → ℕ
-count_to p sent_items = length (filter (λ sent_item. sent_item.to == p) sent_items)
+-- whether an item was sent to p in session k
+abbrev pub is_sent_to : (p k : ℕ) → SentItem → Bool
+is_sent_to p k sent_item = sent_item.to == p && sent_item.session == k
 
--- gifts are sent one after the other, each with the next number of its peer
-abbrev pub with_gifts : List SentItem → List Gift → List SentItem
-with_gifts sent_items [] = sent_items
-with_gifts sent_items (gift ∷ gifts) = with_gifts (sent_items ++ record { to = gift.to; number = count_to gift.to sent_items + 1; item = gift.item } ∷ []) gifts
+-- how many items were sent to p in session k
+abbrev pub count_to : (p k : ℕ) → List SentItem → ℕ
+count_to p k sent_items = length (filter (is_sent_to p k) sent_items)
 
--- all that was sent, to all peers, the first first
-abbrev pub sent_of : List (List Gift) → List SentItem
-sent_of [] = []
-sent_of (gifts ∷ G) = with_gifts (sent_of G) gifts
+-- the numbers of the sessions with the owners of some references
+abbrev pub owner_sessions : List Deed → List WireRep → List ℕ
+owner_sessions D reps = map (λ rep. number rep.owner D) reps
+
+-- what is sent next as a gift after what was done: in the present sessions with the peer and with the owners of its references, with the next number of that session
+abbrev pub next_sent : List Deed → List SentItem → Gift → SentItem
+next_sent D sent_items gift = record {
+  to = gift.to;
+  session = number gift.to D;
+  number = count_to gift.to (number gift.to D) sent_items + 1;
+  item = gift.item;
+  owners = owner_sessions D (counted_in gift.item);
+}
+
+-- gifts are sent one after the other
+abbrev pub with_gifts : List Deed → List SentItem → List Gift → List SentItem
+with_gifts D sent_items [] = sent_items
+with_gifts D sent_items (gift ∷ gifts) = with_gifts D (sent_items ++ next_sent D sent_items gift ∷ []) gifts
+
+-- all that was sent, to all peers, the first first, by what each deed gave: it is sent before the deed is done
+abbrev pub sent_of : List Deed → List (List Gift) → List SentItem
+sent_of [] G = []
+sent_of (deed ∷ D) [] = sent_of D []
+sent_of (deed ∷ D) (gifts ∷ G) = with_gifts D (sent_of D G) gifts
 
 -- all that was sent in a history
 abbrev pub sent : History → List SentItem
-sent h = sent_of h.all_gifts
+sent h = sent_of h.deeds h.all_gifts
 
 -- whether an item is the Settle of item k
 abbrev pub is_settle_of : ℕ → Option Item → Bool
@@ -55,9 +74,23 @@ abbrev pub is_some_of : {A : Type 0} → List A → Bool
 is_some_of [] = false
 is_some_of (x ∷ xs) = true
 
--- whether what was sent has pins here: it carries counted references, its Settle wasn't acted on, and the session hasn't closed here
+-- whether what was sent was sent in the present session with its receiver
+abbrev pub is_of_present : List Deed → SentItem → Bool
+is_of_present D sent_item = sent_item.session == number sent_item.to D
+
+-- the number that stands at the place of a reference, 0 where it has none
+abbrev pub number_at_place : WireRep → List WireRep → List ℕ → ℕ
+number_at_place rep [] numbers = 0
+number_at_place rep (other ∷ reps) [] = 0
+number_at_place rep (other ∷ reps) (k ∷ numbers) = if is_same rep other then k else number_at_place rep reps numbers
+
+-- the number of the session with the owner of a reference in which an item with it was sent
+abbrev pub owner_session : WireRep → SentItem → ℕ
+owner_session rep sent_item = number_at_place rep (counted_in sent_item.item) sent_item.owners
+
+-- whether what was sent has pins here: it carries counted references, it was sent in the present session, its Settle wasn't acted on, and the session hasn't closed here
 abbrev pub is_pinned : List Deed → SentItem → Bool
-is_pinned D sent_item = is_some_of (counted_in sent_item.item) && not (is_settled sent_item.to sent_item.number D) && not (closed sent_item.to D)
+is_pinned D sent_item = is_some_of (counted_in sent_item.item) && is_of_present D sent_item && not (is_settled sent_item.to sent_item.number D) && not (closed sent_item.to D)
 
 -- the bundles of pins: what was sent and has pins here
 abbrev pub bundles : History → List SentItem

@@ -16,67 +16,113 @@ use nob_model_types::{Deed, Here, List, sessions, turns};
 use nob_model_work::Gift;
 use std::alloc::{AllocError, Global};
 
-/// An item that was sent to a peer, with its number.
+/// An item that was sent to a peer, with its number and the sessions in which it was sent.
 #[derive(Debug, Drop)]
 pub struct SentItem {
     /// The peer.
     pub to: SpaceId,
-    /// The number of the item.
+    /// The number of the session with the peer.
+    pub session: u32,
+    /// The number of the item: in each session with a peer they begin with 1.
     pub number: ItemNo,
     /// The item.
     pub item: Item,
+    /// The numbers of the sessions with the owners of its counted references, in reading order. For
+    /// a reference of the sender's own the number says nothing.
+    pub owners: List<u32>,
 }
 
-/// How many of these items were sent to a peer.
-pub fn count_to(peer: SpaceId, sent_items: &[SentItem]) -> usize
-    ensures value { result ≡ words.count_to peer sent_items.now }
+/// How many of these items were sent to a peer in the session of a number.
+pub fn count_to(peer: SpaceId, session: u32, sent_items: &[SentItem]) -> usize
+    ensures value { result ≡ words.count_to peer session sent_items.now }
     ensures bound { result ≤ length sent_items.now }
 {
     sent_items
         .iter()
-        .filter(|sent_item| sent_item.to == peer)
+        .filter(|sent_item| sent_item.to == peer && sent_item.session == session)
         .count()
 }
 
-// What was sent with one gift more.
-fn with_gift(gift: &Gift, mut sent_items: Vec<SentItem>) -> Result<Vec<SentItem>, AllocError>
-    ensures { IfOk result (λ more. more.items
-        ≡ sent_items.items ++ record {
-          to = gift.now.to;
-          number = words.count_to gift.now.to sent_items.items + 1;
-          item = gift.now.item;
-        } ∷ []) }
+/// The numbers of the sessions with the owners of some references.
+pub fn owner_sessions(
+    alloc: Global,
+    deeds: &[Deed],
+    reps: &[WireRep],
+) -> Result<Vec<u32>, AllocError>
+    ensures { IfOk result (λ owners. owners.items ≡ words.owner_sessions deeds.now reps.now) }
 {
-    let to = gift.to;
-    let number = ItemNo::new(count_to(to, sent_items.as_slice()) as u64 + 1);
-    let item = gift.item.copy()?;
-    sent_items.push(SentItem { to, number, item })?;
-    Ok(sent_items)
-}
-
-// What was sent with some gifts more.
-fn with_gifts(gifts: &[Gift], sent_items: Vec<SentItem>) -> Result<Vec<SentItem>, AllocError>
-    ensures { IfOk result (λ more. more.items ≡ words.with_gifts sent_items.items gifts.now) }
-{
-    match gifts {
-        [] => Ok(sent_items),
-        [gift, rest @ ..] => {
-            let more = with_gift(gift, sent_items)?;
-            with_gifts(rest, more)
+    match reps {
+        [] => Ok(Vec::new(alloc)),
+        [rep, others @ ..] => {
+            let mut owners = owner_sessions(alloc, deeds, others)?;
+            owners.insert(0, sessions::number(rep.owner, deeds))?;
+            Ok(owners)
         }
     }
 }
 
-// All that was sent, by what each deed gave.
-fn sent_of(alloc: Global, all_gifts: &[List<Gift>]) -> Result<Vec<SentItem>, AllocError>
-    ensures { IfOk result (λ sent_items. sent_items.items ≡ words.sent_of all_gifts.now) }
+// What is sent next as a gift.
+fn next_sent(
+    alloc: Global,
+    deeds: &[Deed],
+    sent_items: &[SentItem],
+    gift: &Gift,
+) -> Result<SentItem, AllocError>
+    ensures { IfOk result (λ next. next ≡ words.next_sent deeds.now sent_items.now gift.now) }
 {
-    match all_gifts {
-        [] => Ok(Vec::new(alloc)),
-        [gifts, before @ ..] => {
-            let sent_items = sent_of(alloc, before)?;
-            with_gifts(gifts.as_slice(), sent_items)
+    let to = gift.to;
+    let session = sessions::number(to, deeds);
+    let number = ItemNo::new(count_to(to, session, sent_items) as u64 + 1);
+    let reps = nob_item::counted_refs(alloc, &gift.item)?;
+    let owners = List::from_vec(owner_sessions(alloc, deeds, reps.as_slice())?);
+    let item = gift.item.copy()?;
+    Ok(SentItem {
+        to,
+        session,
+        number,
+        item,
+        owners,
+    })
+}
+
+// What was sent with some gifts more.
+fn with_gifts(
+    alloc: Global,
+    deeds: &[Deed],
+    gifts: &[Gift],
+    mut sent_items: Vec<SentItem>,
+) -> Result<Vec<SentItem>, AllocError>
+    ensures { IfOk result (λ more. more.items
+        ≡ words.with_gifts deeds.now sent_items.items gifts.now) }
+{
+    match gifts {
+        [] => Ok(sent_items),
+        [gift, rest @ ..] => {
+            let next = next_sent(alloc, deeds, sent_items.as_slice(), gift)?;
+            sent_items.push(next)?;
+            with_gifts(alloc, deeds, rest, sent_items)
         }
+    }
+}
+
+// All that was sent, by what was done and what each deed gave.
+fn sent_of(
+    alloc: Global,
+    deeds: &[Deed],
+    all_gifts: &[List<Gift>],
+) -> Result<Vec<SentItem>, AllocError>
+    ensures { IfOk result (λ sent_items. sent_items.items
+        ≡ words.sent_of deeds.now all_gifts.now) }
+{
+    match deeds {
+        [] => Ok(Vec::new(alloc)),
+        [_, older @ ..] => match all_gifts {
+            [] => sent_of(alloc, older, all_gifts),
+            [gifts, before @ ..] => {
+                let sent_items = sent_of(alloc, older, before)?;
+                with_gifts(alloc, older, gifts.as_slice(), sent_items)
+            }
+        },
     }
 }
 
@@ -84,7 +130,11 @@ fn sent_of(alloc: Global, all_gifts: &[List<Gift>]) -> Result<Vec<SentItem>, All
 pub fn sent(alloc: Global, history: &History) -> Result<Vec<SentItem>, AllocError>
     ensures { IfOk result (λ sent_items. sent_items.items ≡ words.sent history.now) }
 {
-    sent_of(alloc, history.all_gifts.as_slice())
+    sent_of(
+        alloc,
+        history.deeds.as_slice(),
+        history.all_gifts.as_slice(),
+    )
 }
 
 // Whether an item is the Settle of a number.
@@ -119,12 +169,42 @@ pub fn is_settled(
     }
 }
 
+// The number that stands at the place of a reference.
+fn number_at_place(rep: &WireRep, reps: &[WireRep], numbers: &[u32]) -> u32
+    ensures { result ≡ words.number_at_place rep.now reps.now numbers.now }
+{
+    match reps {
+        [] => 0,
+        [other, others @ ..] => match numbers {
+            [] => 0,
+            [number, rest @ ..] => {
+                if *rep == *other {
+                    return *number;
+                }
+                number_at_place(rep, others, rest)
+            }
+        },
+    }
+}
+
+/// The number of the session with the owner of a reference in which an item with it was sent, 0
+/// where it doesn't carry the reference.
+pub fn owner_session(alloc: Global, rep: &WireRep, sent_item: &SentItem) -> Result<u32, AllocError>
+    ensures { IfOk result (λ number. number ≡ words.owner_session rep.now sent_item.now) }
+{
+    let reps = nob_item::counted_refs(alloc, &sent_item.item)?;
+    Ok(number_at_place(rep, reps.as_slice(), sent_item.owners.as_slice()))
+}
+
 // Whether what was sent has pins.
 fn is_pinned(alloc: Global, deeds: &[Deed], sent_item: &SentItem) -> Result<bool, AllocError>
     ensures { IfOk result (λ answer. answer ≡ words.is_pinned deeds.now sent_item.now) }
 {
     let reps = nob_item::counted_refs(alloc, &sent_item.item)?;
     if reps.as_slice().is_empty() {
+        return Ok(false);
+    }
+    if sent_item.session != sessions::number(sent_item.to, deeds) {
         return Ok(false);
     }
     if is_settled(alloc, sent_item.to, sent_item.number, deeds)? {

@@ -14,7 +14,7 @@ use Rattle.nob_model_types.specs.declared.deed.Deed.{Deed}
 use Rattle.nob_model_types.specs.declared.deed.Deed.TheVariants as did
 use Rattle.nob_model_types.specs.declared.message.Message.{Message}
 use Rattle.nob_model_types.specs.declared.turns.Turns.{Turns}
-use Rattle.nob_model_types.specs.Sessions.{is_peer, item_at}
+use Rattle.nob_model_types.specs.Sessions.{is_peer, number, item_at}
 use Rattle.nob_model_types.specs.Objects.{is_exported, is_live}
 use Rattle.nob_model_types.specs.Turns.{wants_dirty, turns}
 use Rattle.nob_model_types.specs.Messages.{is_of, is_lost_message}
@@ -26,7 +26,8 @@ use Rattle.nob_model_work.specs.Gifts.{once, dirty_for, dirties_for, answer_to, 
 use Rattle.nob_model.proofs.Accepted.{found_passes}
 use Rattle.nob_model.proofs.Carrying.{AllOutstanding, all_filter, all_found}
 use Rattle.nob_model_journal.specs.Losses.{is_carried, sources}
-use Rattle.nob_model_invariant.proofs.Lists.{all_map}
+use Rattle.nob_model_journal.specs.declared.losses.Source.{Source}
+use Rattle.nob_model_holdings.proofs.Lists.{all_map}
 use Rattle.nob_model_invariant.specs.FirstSpaces.{IsOfFirst, SpeaksOfFirst, AmongFirst}
 use Rattle.nob_model_invariant.proofs.AlikeLists.{filter_alike}
 use Rattle.nob_model_invariant.proofs.AlikeReading.{IsMessageOfFirst, peer_alike, wants_alike, turns_alike, lost_message_alike, hand_first, work_alike}
@@ -162,8 +163,8 @@ module _ (s n m : ℕ) (wider : n ≤ m) where
   -- from where the copies of every reference came
   pub sources_alike : (rep : WireRep) (D : List Deed) → AmongFirst n D → sources s n rep D ≡ sources s m rep D
   sources_alike rep [] first = refl
-  sources_alike rep (did.Act p k ∷ D) first = ap (λ (rest : List ℕ). if is_carried rep (item_at p k D) then p ∷ rest else rest) (sources_alike rep D first.1)
+  sources_alike rep (did.Act p k ∷ D) first = ap (λ (rest : List Source). if is_carried rep (item_at p k D) then record { from = p; session = number p D; number = k } ∷ rest else rest) (sources_alike rep D first.1)
   sources_alike rep (did.Clean other ∷ D) first =
-      let since : Turns → List ℕ → List ℕ = λ t rest. if is_same rep other && t.asks then [] else rest in
+      let since : Turns → List Source → List Source = λ t rest. if is_same rep other && t.asks then [] else rest in
       ap (λ t. since t (sources s n rep D)) (turns_alike s n m wider rep D first.1) ∙ ap (since (turns s m rep D)) (sources_alike rep D first.1)
   sources_alike rep (deed ∷ D) first = sources_alike rep D first.1

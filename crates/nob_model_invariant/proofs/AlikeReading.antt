@@ -16,7 +16,7 @@ use Rattle.nob_model_types.specs.declared.message.Loan.TheVariants as loans
 use Rattle.nob_model_types.specs.declared.message.Message.{Message}
 use Rattle.nob_model_types.specs.declared.message.RefCopy.{RefCopy}
 use Rattle.nob_model_types.specs.declared.turns.Turns.{Turns}
-use Rattle.nob_model_types.specs.Sessions.{is_peer, closed, item_at}
+use Rattle.nob_model_types.specs.Sessions.{is_peer, closed, number, item_at}
 use Rattle.nob_model_types.specs.Turns.{is_granted, is_refused, is_standing, wants_dirty, with_dirty, with_clean, turns_after, turns, is_own, is_lost}
 use Rattle.nob_model_types.specs.Messages.{new_copy, new_message, loan_after, copy_after, message_after, is_of, is_lost_message}
 use Rattle.nob_model_work.specs.declared.work.Outstanding.{Outstanding}
@@ -24,8 +24,8 @@ use Rattle.nob_model_work.specs.declared.work.Run.{Run}
 use Rattle.nob_model_work.specs.Work.{after_message, after_act, lost_reply, without_waiting, after_settlement, after_settle, work_after, run_after, with_loans, work}
 use Rattle.nob_model_history.proofs.Turning.{same_ref}
 use Rattle.nob_model.proofs.Carrying.{AllOutstanding, all_found}
-use Rattle.nob_model_invariant.proofs.Lists.{all_map}
-use Rattle.nob_model_invariant.proofs.Hands.{New, outstanding_more}
+use Rattle.nob_model_holdings.proofs.Lists.{all_map}
+use Rattle.nob_model_holdings.proofs.Hands.{New, outstanding_more}
 use Rattle.nob_model_invariant.specs.FirstSpaces.{IsOfFirst, SpeaksOfFirst, AmongFirst}
 use Rattle.nob_model_invariant.proofs.AlikeLists.{map_same, map_alike, any_alike}
 
@@ -100,7 +100,7 @@ module _ (s n m : ℕ) (wider : n ≤ m) where
   message_alike : (D : List Deed) → AmongFirst n D → (message : Message) → message_after s n D message ≡ message_after s m D message
   unfolding message_after
   message_alike D first message =
-      let make : List RefCopy → Message = λ copies. record { from = message.from; number = message.number; item = message.item; copies = copies } in
+      let make : List RefCopy → Message = λ copies. record { from = message.from; session = message.session; number = message.number; item = message.item; copies = copies } in
       ap make (map_same (λ copy. copy_after s n D copy) (λ copy. copy_after s m D copy) (copy_alike D first) message.copies)
 
   run_alike : (D : List Deed) → AmongFirst n D → (run : Run) → run_after s n D run ≡ run_after s m D run
@@ -123,7 +123,7 @@ module _ (s n m : ℕ) (wider : n ≤ m) where
 
   new_alike : (p k : ℕ) (item : Item) (D : List Deed) → AmongFirst n D → AllByRecursion (IsOfFirst n) (counted_in item) → new_message s n p k item D ≡ new_message s m p k item D
   new_alike p k item D first its =
-      let make : List RefCopy → Message = λ copies. record { from = p; number = k; item = item; copies = copies } in
+      let make : List RefCopy → Message = λ copies. record { from = p; session = number p D; number = k; item = item; copies = copies } in
       ap make (map_alike (IsOfFirst n) (λ rep. new_copy s n D rep) (λ rep. new_copy s m D rep) (fresh_alike D first) (counted_in item) its)
 
   pub lost_message_alike : (D : List Deed) → AmongFirst n D → (message : Message) → IsMessageOfFirst n message → is_lost_message s n D message ≡ is_lost_message s m D message

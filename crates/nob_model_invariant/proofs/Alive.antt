@@ -42,12 +42,12 @@ use Rattle.nob_model.proofs.Orderly.{holds_law}
 use Rattle.nob_model.proofs.Lending.{IsAllLent, all_lent}
 use Rattle.nob_model.proofs.Carrying.{AllOutstanding, Carries, all_carry, all_found}
 use Rattle.nob_model.proofs.Waiting.{all_weaker}
-use Rattle.nob_model_invariant.proofs.Lists.{all_append, all_split, all_both, all_unfilter, some_same}
-use Rattle.nob_model_invariant.proofs.Hands.{New, outstanding_more, hand_weaker, hand_both}
-use Rattle.nob_model_invariant.proofs.Holding.{OfCounted, times_some}
+use Rattle.nob_model_holdings.proofs.Lists.{all_append, all_split, all_both, all_unfilter, some_same}
+use Rattle.nob_model_holdings.proofs.Hands.{New, outstanding_more, hand_weaker, hand_both}
+use Rattle.nob_model_holdings.proofs.Holding.{OfCounted, times_some}
 use Rattle.nob_model_invariant.proofs.Owners.{any_push}
-use Rattle.nob_model_invariant.proofs.Granted.{all_stand, hand_apart, hand_joined, copies_apart, copies_joined, either_some}
-use Rattle.nob_model_invariant.proofs.Holdings.{hand_held, lent_held, fewer, either_came, times_append}
+use Rattle.nob_model_holdings.proofs.Granted.{all_stand, hand_apart, hand_joined, copies_apart, copies_joined, either_some}
+use Rattle.nob_model_holdings.proofs.Holdings.{hand_held, lent_held, fewer, either_came, times_append}
 
 -- a reference to an own object is to a live one
 abbrev pub IsAlive : ℕ → List Deed → WireRep → Type 0

@@ -14,7 +14,7 @@ use Rattle.nob_model_types.specs.declared.event.Outcome.{Outcome}
 use Rattle.nob_model_types.specs.declared.deed.Deed.{Deed}
 use Rattle.nob_model_types.specs.declared.deed.Deed.TheVariants as did
 use Rattle.nob_model_types.specs.declared.message.Message.{Message}
-use Rattle.nob_model_types.specs.Sessions.{is_peer, item_at}
+use Rattle.nob_model_types.specs.Sessions.{is_peer, number, item_at}
 use Rattle.nob_model_types.specs.Objects.{is_live, is_exported}
 use Rattle.nob_model_types.specs.Turns.{turns, wants_dirty, carries}
 use Rattle.nob_model_types.specs.Messages.{is_of, is_lost_message}
@@ -25,16 +25,16 @@ use Rattle.nob_model_work.specs.Gifts.{once, dirty_for, dirties_for, answer_to, 
 use Rattle.nob_model_history.specs.Histories.{history_of}
 use Rattle.nob_model_history.specs.Ends.{items_to}
 use Rattle.nob_model_history.specs.Transit.{sent}
-use Rattle.nob_model_history.proofs.Numbered.{items_sent_to, gifts_sent_to}
+use Rattle.nob_model_history.proofs.Numbered.{items_sent_in, gifts_sent_now}
 use Rattle.nob_model_history.proofs.Dirtying.{same_flip}
 use Rattle.nob_model_history.proofs.Turning.{same_ref}
 use Rattle.nob_model_history.proofs.Unasked.{is_message}
 use Rattle.nob_model.proofs.Carrying.{all_filter}
 use Rattle.nob_model_invariant.specs.Asking.{ask_in, asks_among}
 
--- what space s asked of the owner of a reference
+-- what space s asked of the owner of a reference in the session in which it is
 abbrev pub asks_of : (s n : ℕ) → WireRep → List Deed → List Bool
-asks_of s n rep D = asks_among rep.index (items_sent_to rep.owner (sent (history_of s n D)))
+asks_of s n rep D = asks_among rep.index (items_sent_in rep.owner (number rep.owner D) (sent (history_of s n D)))
 
 -- what a gift asks of the owner of a reference
 abbrev pub gift_asks : WireRep → Gift → Option Bool
@@ -57,8 +57,8 @@ asks_to rep (gift ∷ more) = to_owner rep (gift.to == rep.owner) gift (filter (
 pub asks_more : (s n : ℕ) (rep : WireRep) (deed : Deed) (D : List Deed) → asks_of s n rep (deed ∷ D) ≡ asks_of s n rep D ++ gifts_ask rep (gifts s n deed D (work s n D))
 asks_more s n rep deed D =
     let more : List Gift = gifts s n deed D (work s n D) in
-    ap (asks_among rep.index) (gifts_sent_to rep.owner more (sent (history_of s n D)))
-    ∙ filter_map-append (ask_in rep.index) (items_sent_to rep.owner (sent (history_of s n D))) (items_to rep.owner more)
+    ap (asks_among rep.index) (gifts_sent_now rep.owner D more (sent (history_of s n D)))
+    ∙ filter_map-append (ask_in rep.index) (items_sent_in rep.owner (number rep.owner D) (sent (history_of s n D))) (items_to rep.owner more)
     ∙ ap (λ bs. asks_of s n rep D ++ bs) (asks_to rep more)
 
 -- ---- gifts that ask for nothing

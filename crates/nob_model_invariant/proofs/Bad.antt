@@ -2,7 +2,8 @@
 use Rattle.std.proofs.Common.{◌≡◌, ℕ, ◌+◌, ◌≤◌, ◌&&◌, not, Bool, true, false, cond, List, [], ◌∷◌, length, Option, Some, None, Result, Ok, Err, refl, sym, ap, subst, ◌∙◌, arith}
 use Rattle.std.specs.Prelude.{◌==◌, ◌≢◌, ◌||◌, nat_lt, nat_le}
 use Rattle.std.specs.List.{AllByRecursion, list_any}
-use Rattle.std.proofs.lemmas.Bool.{eqb-true, le-ltb, false_from_ne_true}
+use Rattle.std.proofs.lemmas.Bool.{eqb-true, le-ltb, or_parts, false_from_ne_true}
+use Rattle.std.proofs.lemmas.Bool.Decides.{nat_tests}
 use Rattle.nob_ids.specs.declared.limits.Limits.{Limits}
 use Rattle.nob_ids.specs.declared.reason.Reason.{Reason}
 use Rattle.nob_ids.specs.declared.reason.Reason.TheVariants.{PeerClosed, Asked, RetriesUsedUp, BadItem, BadReference, OutOfPlace}
@@ -12,6 +13,7 @@ use Rattle.nob_item.specs.declared.item.Item.{Item}
 use Rattle.nob_item.specs.declared.item.Item.TheVariants as items
 use Rattle.nob_model_session.specs.End.{number, is_open, accepted, transmitted, is_out, ticks}
 use Rattle.nob_model_session.specs.Right.{is_of_pair, taken_by}
+use Rattle.nob_model_session.proofs.Sessions.{up_to_present}
 use Rattle.nob_model_session.specs.declared.entry.Ending.{Ending}
 use Rattle.nob_model_session.specs.declared.entry.Arrived.{Arrived}
 use Rattle.nob_model_session.specs.declared.entry.Arrived.TheVariants as arrived
@@ -34,10 +36,10 @@ use Rattle.nob_model.proofs.Accepted.{ClosesFor, fault_tells, arrive_end_tells, 
 use Rattle.nob_model_journal.specs.Journals.{history_at}
 use Rattle.nob_model_journal.specs.Runs.{ArrivesGiven, WorldRun}
 use Rattle.nob_model_invariant.specs.Typed.{AreOfTypes}
-use Rattle.nob_model_invariant.specs.SafetyInvariant.{is_bad_item}
+use Rattle.nob_model_invariant.specs.SafetyInvariant.{is_bad_item, calls_in}
 use Rattle.nob_model_invariant.specs.SafetyLaws.{ReadingsLaw}
 use Rattle.nob_model_invariant.proofs.Carried.{frames_carried}
-use Rattle.nob_model_invariant.proofs.Order.{reached, all_fit, front_is_next, self_peer}
+use Rattle.nob_model_invariant.proofs.Order.{reached_in, all_fit, front_is_next, self_peer}
 use Rattle.nob_model_invariant.proofs.Closing.{Closes, others_keep}
 
 -- ---- reasons
@@ -100,12 +102,12 @@ same_ending : (one ending : Ending) → arrives (arrived.Closed one) ≡ arrives
 same_ending one ending e = cc
 
 -- an arrival that acknowledges only what was transmitted closes a session as its peer did
-arrival_reason : (strange older shut ends_it behind : Bool) (count : ℕ) (one two ending : Ending) → behind ≡ false → cond strange (Err end_refusals.Strange) (Ok (cond older (arrived.Took 0) (cond shut (arrived.Took 0) (cond ends_it (arrived.Closed one) (cond behind (arrived.Closed two) (arrived.Took count)))))) ≡ arrives (arrived.Closed ending) → one ≡ ending
+arrival_reason : (strange older shut ends_it behind : Bool) (count : ℕ) (one two ending : Ending) → (older ≡ false → ends_it ≡ false → behind ≡ false) → cond strange (Err end_refusals.Strange) (Ok (cond older (arrived.Took 0) (cond shut (arrived.Took 0) (cond ends_it (arrived.Closed one) (cond behind (arrived.Closed two) (arrived.Took count)))))) ≡ arrives (arrived.Closed ending) → one ≡ ending
 arrival_reason true older shut ends_it behind count one two ending known e = absurd (refused end_refusals.Strange _ e)
 arrival_reason false true shut ends_it behind count one two ending known e = absurd (took_ended 0 ending e)
 arrival_reason false false true ends_it behind count one two ending known e = absurd (took_ended 0 ending e)
 arrival_reason false false false true behind count one two ending known e = same_ending one ending e
-arrival_reason false false false false true count one two ending known e = cc
+arrival_reason false false false false true count one two ending known e = absurd (let clash : true ≡ false = known refl refl in cc)
 arrival_reason false false false false false count one two ending known e = absurd (took_ended count ending e)
 
 -- a result of a tick that is no refusal
@@ -135,16 +137,24 @@ act_bad s n p limits J run typed e =
     let next = front_is_next p s n front.0 limits front.1 J run (all_fit n limits J run typed p) told.0 front.2 in
     item_bad s n p next.item (history_at s n J) (subst (λ found. ClosesFor s n p BadItem found (history_at s n J)) next.spelt front.3)
 
+-- a frame that is neither older nor newer is of the present session
+in_session : (m k : ℕ) → nat_lt m k ≡ false → nat_lt k m ≡ false → k ≡ m
+in_session m k older newer = grind (arith, nat_tests, older, newer)
+
+-- it acknowledges no more than was transmitted
+acknowledged : (frame : Frame) (count : ℕ) (calls : List EndEntry) → frame.ack ≤ count + 1 → count ≤ transmitted calls → nat_lt (transmitted calls + 1) frame.ack ≡ false
+acknowledged frame count calls carried reach = le-ltb _ _ (omega (arith, carried, reach))
+
 arrive_bad : (s n : ℕ) (frame : Frame) (limits : ℕ → Limits) (J : List Entry) → WorldRun n limits J → ArrivesGiven (events.Arrive frame) J → Closes (right_after s n (limits s) (history_at s n J) (events.Arrive frame)) BadItem → ⊥
 unfolding right_after
 arrive_bad s n frame limits J run given_it e =
     let told = arrive_end_tells s n BadItem frame (history_at s n J) e in
     let calls : List EndEntry = calls_at frame.from (history_at s n J) in
-    let peers : List EndEntry = calls_at s (history_at frame.from n J) in
+    let peers : List EndEntry = calls_in n frame.from s frame.session J in
     let apart : s ≢ frame.from = λ same. self_peer s n (subst (λ (q : ℕ). is_peer s n q ≡ true) (sym same) told.1) in
-    let carried : frame.ack ≤ length (accepted peers) + 1 = subst (λ (q : ℕ). frame.ack ≤ length (accepted (calls_at q (history_at frame.from n J))) + 1) (eqb-true frame.to s told.0) (frames_carried n limits J run frame given_it).acknowledges in
-    let reach : length (accepted peers) ≤ transmitted calls = (reached s frame.from n limits J apart run).accepted_transmitted in
-    let known : nat_lt (transmitted calls + 1) frame.ack ≡ false = le-ltb _ _ (omega (arith, carried, reach)) in
+    let carried : frame.ack ≤ length (accepted peers) + 1 = subst (λ (q : ℕ). frame.ack ≤ length (accepted (calls_in n frame.from q frame.session J)) + 1) (eqb-true frame.to s told.0) (frames_carried n limits J run frame given_it).acknowledges in
+    let reach : length (accepted peers) ≤ transmitted (calls_in n s frame.from frame.session J) = (reached_in s frame.from n frame.session limits J apart run).accepted_transmitted in
+    let known : nat_lt frame.session (number calls) ≡ false → (nat_lt (number calls) frame.session || is_close frame.kind) ≡ false → nat_lt (transmitted calls + 1) frame.ack ≡ false = λ older newer. acknowledged frame (length (accepted peers)) calls carried (subst (λ those. length (accepted peers) ≤ transmitted those) (up_to_present frame.session calls (in_session frame.session (number calls) older (or_parts (nat_lt (number calls) frame.session) (is_close frame.kind) newer).0)) reach) in
     let ended : record_of frame.from ≡ told.2.0 = arrival_reason (not (is_of_pair s frame.from frame)) (nat_lt frame.session (number calls)) (not (is_open calls)) (nat_lt (number calls) frame.session || is_close frame.kind) (nat_lt (transmitted calls + 1) frame.ack) (taken_by frame calls) (record_of frame.from) (record { peer = frame.from; reason = BadItem }) told.2.0 known told.2.1 in
     peer_bad (ap (λ (ending : Ending). ending.reason) ended ∙ told.2.2)
   where

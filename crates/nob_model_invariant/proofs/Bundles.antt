@@ -15,7 +15,7 @@ use Rattle.nob_model_history.proofs.Sending.{up_to}
 use Rattle.nob_model_journal.specs.Fronts.{with_numbers}
 use Rattle.nob_model_invariant.specs.Asking.{items_among}
 use Rattle.nob_model_invariant.specs.Settles.{settle_in, settles_among, is_in, AreOnce}
-use Rattle.nob_model_invariant.proofs.Lists.{some_same}
+use Rattle.nob_model_holdings.proofs.Lists.{some_same}
 
 none_some : {X : Type 0} (x : X) → None ≡ Some x → ⊥
 none_some x e = cc

@@ -1,6 +1,6 @@
 -- On every list of right deeds Calls are sent once each, by numbers that rise; and a Call that was sent has its Reply acted
 -- on or waits for one, unless the session with its owner has closed.
-use Rattle.std.proofs.Common.{◌≡◌, ℕ, ◌+◌, ◌≤◌, ◌<◌, ◌&&◌, ◌||◌, not, Bool, true, false, cond, List, [], ◌∷◌, ◌++◌, find, Option, Some, None, if◌then◌else◌, refl, sym, ap, subst, ◌∙◌, arith, ◌⊎◌, inl, inr}
+use Rattle.std.proofs.Common.{◌≡◌, ℕ, ◌+◌, ◌≤◌, ◌<◌, ◌&&◌, ◌||◌, not, Bool, true, false, cond, List, [], ◌∷◌, ◌++◌, map, filter, find, Option, Some, None, if◌then◌else◌, refl, sym, ap, subst, ◌∙◌, arith, ◌⊎◌, inl, inr}
 use Rattle.std.specs.Prelude.{◌==◌, nat_le}
 use Rattle.std.specs.List.{AllByRecursion, list_any, cons_option}
 use Rattle.std.proofs.lemmas.Bool.{eqb-true, eqb-false, eq-eqb, ne_eqb, and_parts, and_from, or_right, leb-true, leb-false}
@@ -17,7 +17,7 @@ use Rattle.nob_model_types.specs.declared.event.Outcome.{Outcome}
 use Rattle.nob_model_types.specs.declared.deed.Deed.{Deed}
 use Rattle.nob_model_types.specs.declared.deed.Deed.TheVariants as did
 use Rattle.nob_model_types.specs.declared.message.Message.{Message}
-use Rattle.nob_model_types.specs.Sessions.{is_peer, closed, item_at, acted}
+use Rattle.nob_model_types.specs.Sessions.{is_peer, closed, number, item_at, acted}
 use Rattle.nob_model_types.specs.Messages.{new_message, is_of, replies_to, is_job, is_lost_message}
 use Rattle.nob_model_work.specs.declared.gifts.Gift.{Gift}
 use Rattle.nob_model_work.specs.declared.work.Outstanding.{Outstanding}
@@ -29,8 +29,9 @@ use Rattle.nob_model_work.specs.Work.{is_call, is_run, wait, make_ready, make_re
 use Rattle.nob_model_work.specs.Gifts.{lost_call_reply, gifts_of_settle, status_of, value_of, reply_to, gifts_of_finish, gifts_of, gifts}
 use Rattle.nob_model_history.specs.Histories.{history_of}
 use Rattle.nob_model_history.specs.Ends.{items_to}
-use Rattle.nob_model_history.specs.Transit.{sent}
-use Rattle.nob_model_history.proofs.Numbered.{items_sent_to, gifts_sent_to}
+use Rattle.nob_model_history.specs.declared.transit.SentItem.{SentItem}
+use Rattle.nob_model_history.specs.Transit.{is_sent_to, sent}
+use Rattle.nob_model_history.proofs.Numbered.{items_sent_to, gifts_sent_to, items_sent_in}
 use Rattle.nob_model_acting.specs.Acting.{is_sent, awaits_reply}
 use Rattle.nob_model.specs.Right.{calls_made, right_after}
 use Rattle.nob_model.specs.Lists.{AreRightDeeds}
@@ -40,6 +41,7 @@ use Rattle.nob_model.proofs.Replying.{is_asked, replies_in, AreOneEach, AreAnswe
 use Rattle.nob_model_invariant.specs.Asking.{items_among}
 use Rattle.nob_model_invariant.specs.Counting.{count_of, makes_call}
 use Rattle.nob_model_invariant.proofs.Counts.{none_some, one_if, count_first, count_append, count_found, any_mapped, any_weaker, any_kept, any_before, any_last}
+use Rattle.nob_model_invariant.proofs.BySession.{sent_now_more}
 use Rattle.nob_model_invariant.proofs.Fair.{gives, no_second, count_given, notes_give}
 
 note_calls : (k : ℕ) (item : Item) → is_note item ≡ true → makes_call k item ≡ false
@@ -50,6 +52,16 @@ note_calls k (items.Dirty index) is = refl
 note_calls k (items.DirtyOk index) is = refl
 note_calls k (items.DirtyNo index) is = refl
 note_calls k (items.Clean index) is = refl
+
+-- no more of something was sent in a session than in all
+pub fewer_in : (test : Item → Bool) (p session : ℕ) (sent_items : List SentItem) → count_of test (items_sent_in p session sent_items) ≤ count_of test (items_sent_to p sent_items)
+fewer_in test p session [] = omega arith
+fewer_in test p session (one ∷ more) = by (one.to == p) (one.session == session) (fewer_in test p session more)
+  where
+    by : (own now : Bool) → count_of test (items_sent_in p session more) ≤ count_of test (items_sent_to p more) → count_of test (map (λ (x : SentItem). x.item) (cond (own && now) (one ∷ filter (is_sent_to p session) more) (filter (is_sent_to p session) more))) ≤ count_of test (map (λ (x : SentItem). x.item) (cond own (one ∷ filter (λ (x : SentItem). x.to == p) more) (filter (λ (x : SentItem). x.to == p) more)))
+    by true true rest = let few = count_first test one.item (items_sent_in p session more) in let all = count_first test one.item (items_sent_to p more) in omega (arith, rest, few, all)
+    by true false rest = let all = count_first test one.item (items_sent_to p more) in omega (arith, rest, all)
+    by false now rest = rest
 
 module _ (p k : ℕ) where
   -- ---- what is called
@@ -119,7 +131,20 @@ module _ (p k : ℕ) where
       let W : Outstanding = work s n D in
       let given = count_given (makes_call k) p (λ (gift : Gift). is_peer s n gift.to) (gifts_of s n deed D W) in
       let fewer = deed_calls s n deed D W in
-      let whole = ap (count_of (makes_call k)) (gifts_sent_to p (gifts s n deed D W) (sent (history_of s n D))) ∙ count_append (makes_call k) (items_sent_to p (sent (history_of s n D))) (items_to p (gifts s n deed D W)) in
+      let whole = ap (count_of (makes_call k)) (gifts_sent_to p D (gifts s n deed D W) (sent (history_of s n D))) ∙ count_append (makes_call k) (items_sent_to p (sent (history_of s n D))) (items_to p (gifts s n deed D W)) in
+      omega (arith, given, fewer, whole)
+
+  -- how often it was sent in the present session
+  abbrev pub calls_now : (s n : ℕ) → List Deed → ℕ
+  calls_now s n D = count_of (makes_call k) (items_sent_in p (number p D) (sent (history_of s n D)))
+
+  now_more : (s n : ℕ) (deed : Deed) (D : List Deed) → calls_now s n (deed ∷ D) ≤ calls_now s n D + calls_so deed
+  unfolding gifts
+  now_more s n deed D =
+      let W : Outstanding = work s n D in
+      let given = count_given (makes_call k) p (λ (gift : Gift). is_peer s n gift.to) (gifts_of s n deed D W) in
+      let fewer = deed_calls s n deed D W in
+      let whole = ap (count_of (makes_call k)) (sent_now_more s n p deed D) ∙ count_append (makes_call k) (items_sent_in p (number p D) (sent (history_of s n D))) (items_to p (gifts s n deed D W)) in
       omega (arith, given, fewer, whole)
 
   -- ---- each once
@@ -394,12 +419,12 @@ module _ (p k : ℕ) where
       inr (inr (any_last (awaits_reply p k) (work s n D).calls (record { call = call; to = target.owner; stage = stages.Sent }) (and_from _ _ (and_from _ _ parts.1 parts.0) refl)))
   new_answered s n deed D some = absurd (omega (arith, some))
 
-  -- a Call that was sent has its Reply acted on, or waits for one, unless its session has closed
-  pub all_answered : (s n : ℕ) (limits : Limits) (D : List Deed) → AreRightDeeds s n limits D → 1 ≤ calls_sent s n D → IsAnswered s n D
+  -- a Call that was sent in the present session has its Reply acted on, or waits for one, unless the session has closed
+  pub all_answered : (s n : ℕ) (limits : Limits) (D : List Deed) → AreRightDeeds s n limits D → 1 ≤ calls_now s n D → IsAnswered s n D
   all_answered s n limits [] right some = absurd (omega (arith, some))
   all_answered s n limits (deed ∷ D) right some =
-      let more = calls_more s n deed D in
-      elim (nat_le 1 (calls_sent s n D)) as (λ b. nat_le 1 (calls_sent s n D) ≡ b → IsAnswered s n (deed ∷ D)) [
-        | true ↦ λ before. still_answered s n limits deed D right (all_answered s n limits D right.1 (leb-true 1 (calls_sent s n D) before))
-        | false ↦ λ none. (let few = leb-false 1 (calls_sent s n D) none in new_answered s n deed D (omega (arith, some, more, few)))
+      let more = now_more s n deed D in
+      elim (nat_le 1 (calls_now s n D)) as (λ b. nat_le 1 (calls_now s n D) ≡ b → IsAnswered s n (deed ∷ D)) [
+        | true ↦ λ before. still_answered s n limits deed D right (all_answered s n limits D right.1 (leb-true 1 (calls_now s n D) before))
+        | false ↦ λ none. (let few = leb-false 1 (calls_now s n D) none in new_answered s n deed D (omega (arith, some, more, few)))
       ] refl

@@ -1,13 +1,15 @@
 -- Every frame that was given is as its sender's end gave it: what it acknowledges, its number and its payload.
 use Rattle.std.proofs.Common.{◌≡◌, ℕ, zero, suc, ◌+◌, ◌-◌, ◌≤◌, ◌&&◌, not, Bool, true, false, cond, max, List, [], ◌∷◌, ◌++◌, length, take, drop, Option, Some, None, Ok, refl, sym, ap, subst, ◌∙◌, append_assoc, arith}
+use Rattle.std.specs.Prelude.{◌==◌, ◌<◌}
 use Rattle.std.specs.List.{AllByRecursion, Contains, slice_get}
+use Rattle.std.proofs.lemmas.Bool.{eqb-true}
 use Rattle.std.proofs.lemmas.List.{append-nil, length-take, length-drop, length_push, take-append-drop}
 use Rattle.std.proofs.lemmas.List.Elements.{All-from_recursion, All-contains}
 use Rattle.nob_ids.specs.declared.limits.Limits.{Limits}
 use Rattle.nob_ids.specs.declared.reason.Reason.{Reason}
 use Rattle.nob_frame.specs.declared.frame.Frame.{Frame}
 use Rattle.nob_frame.specs.Kinds.{is_data, is_close}
-use Rattle.nob_model_session.specs.End.{number, is_present, is_open, ending, handed, lowest, greatest_seq, accepted_count, places, filled, accepted, transmitted, data_arrived, owes_close}
+use Rattle.nob_model_session.specs.End.{number, up_to, is_present, is_open, ending, handed, lowest, greatest_seq, accepted_count, places, filled, accepted, transmitted, data_arrived, owes_close}
 use Rattle.nob_model_session.specs.Right.{data_frames, open_frames, closed_frames, right_transmit}
 use Rattle.nob_model_session.specs.Pair as pair
 use Rattle.nob_model_session.specs.Accepting.{AllCame}
@@ -15,17 +17,18 @@ use Rattle.nob_model_session.specs.declared.entry.Arrived.TheVariants as arrived
 use Rattle.nob_model_session.specs.declared.entry.EndEntry.{EndEntry}
 use Rattle.nob_model_session.specs.declared.entry.EndEntry.TheVariants as ends
 use Rattle.nob_model_session.proofs.Arriving.{right_came, accepted_length}
+use Rattle.nob_model_session.proofs.Sessions.{Rises, right_rises, number_rises, up_to_present, none_above}
 use Rattle.nob_model_types.specs.declared.entry.Entry.{Entry}
 use Rattle.nob_model_history.specs.Ends.{calls_at}
-use Rattle.nob_model_history.proofs.Sessions.{NeverOpens, never_opens}
+use Rattle.nob_model_history.proofs.Sessions.{opens}
 use Rattle.nob_model_history.proofs.Arriving.{accepts_more}
 use Rattle.nob_model.specs.Laws.{AreRightCalls}
 use Rattle.nob_model.proofs.Waiting.{all_weaker}
 use Rattle.nob_model.proofs.Calling.{calls_law}
 use Rattle.nob_model_journal.specs.Journals.{deeds_at, history_at, transmitted_frames}
 use Rattle.nob_model_journal.specs.Runs.{WorldRun}
-use Rattle.nob_model_invariant.specs.SafetyInvariant.{IsCarried}
-use Rattle.nob_model_invariant.proofs.Lists.{all_append, place_in_whole}
+use Rattle.nob_model_invariant.specs.SafetyInvariant.{IsCarried, calls_in}
+use Rattle.nob_model_holdings.proofs.Lists.{all_append, place_in_whole}
 use Rattle.nob_model_invariant.proofs.Entries.{right_deeds_at}
 use Rattle.nob_model_invariant.proofs.Frames.{given_there}
 
@@ -142,36 +145,78 @@ carried_later before after longer frame carried = record {
   carries = λ d. place_in_whole (handed before) longer.more (handed after) (frame.seq - 1) frame.payload longer.handed_more (carried.carries d);
 }
 
-call_longer : (call : EndEntry) (calls : List EndEntry) → NeverOpens (call ∷ calls) → IsLonger calls (call ∷ calls)
-call_longer (ends.Reopen k (Ok done)) calls never = let opened : true ≡ false = never.0 in absurd (cc)
+call_longer : (call : EndEntry) (calls : List EndEntry) → opens call ≡ false → IsLonger calls (call ∷ calls)
+call_longer (ends.Reopen k (Ok done)) calls never = let opened : true ≡ false = never in absurd (cc)
 call_longer (ends.Send payload kind (Ok n)) calls never = record { same_session = refl; more = payload ∷ []; handed_more = refl; accepted_more = omega arith; transmitted_more = omega arith }
 call_longer (ends.Arrive frame (Ok (arrived.Took k))) calls never = record { same_session = refl; more = []; handed_more = append-nil (handed calls); accepted_more = accepts_more (is_present frame calls) (accepted calls) (filled (places (accepted_count calls + 1) k (ends.Arrive frame (Ok (arrived.Took k)) ∷ calls))); transmitted_more = omega arith }
 call_longer (ends.Transmit frames) calls never = record { same_session = refl; more = []; handed_more = append-nil (handed calls); accepted_more = omega arith; transmitted_more = omega arith }
 call_longer call calls never = record { same_session = refl; more = []; handed_more = append-nil (handed calls); accepted_more = omega arith; transmitted_more = omega arith }
 
-later_all : (call : EndEntry) (calls : List EndEntry) (frames : List Frame) → NeverOpens (call ∷ calls) → AllByRecursion (IsCarried calls) frames → AllByRecursion (IsCarried (call ∷ calls)) frames
-later_all call calls frames never all = all_weaker (IsCarried calls) (IsCarried (call ∷ calls)) (carried_later calls (call ∷ calls) (call_longer call calls never)) frames all
+-- the numbers of sessions are 1 and above
+number_positive : (calls : List EndEntry) → Rises calls → 1 ≤ number calls
+number_positive [] rises = omega arith
+number_positive (call ∷ calls) rises = let before = number_positive calls rises.1 in let more = number_rises call calls rises.0 in omega (arith, before, more)
+
+opened_one : (m k : ℕ) (frame : Frame) (calls : List EndEntry) → Rises calls → number calls < k → k ≡ m → frame.session ≡ m → IsCarried (up_to m calls) frame → ⊥
+opened_one m k frame calls rises above same session carried =
+    let first : frame.session ≡ 1 = (subst (λ before. IsCarried before frame) (none_above m calls rises (subst (λ (j : ℕ). number calls < j) same above)) carried).is_of_session in
+    let low = number_positive calls rises in
+    omega (arith, above, low, first, same, session)
+
+-- a call that begins no session leaves the frames of the present one carried
+present_later : (m : ℕ) (call : EndEntry) (calls : List EndEntry) (frame : Frame) → opens call ≡ false → number calls ≡ m → IsCarried (up_to m calls) frame → IsCarried (call ∷ calls) frame
+present_later m call calls frame none is carried = carried_later calls (call ∷ calls) (call_longer call calls none) frame (subst (λ before. IsCarried before frame) (up_to_present m calls is) carried)
+
+in_present : (m : ℕ) (call : EndEntry) (calls : List EndEntry) (frame : Frame) → Rises (call ∷ calls) → number (call ∷ calls) ≡ m → frame.session ≡ m → IsCarried (up_to m calls) frame → IsCarried (call ∷ calls) frame
+in_present m (ends.Reopen k (Ok done)) calls frame rises is session carried = absurd (opened_one m k frame calls rises.1 rises.0 is session carried)
+in_present m (ends.Send payload kind result) calls frame rises is session carried = present_later m (ends.Send payload kind result) calls frame refl is carried
+in_present m call calls frame rises is session carried = present_later m call calls frame refl is carried
+
+-- a frame is as its sender gave it in its session, by a call more
+frame_later : (m : ℕ) (call : EndEntry) (calls : List EndEntry) (frame : Frame) → Rises (call ∷ calls) → frame.session ≡ m → IsCarried (up_to m calls) frame → IsCarried (up_to m (call ∷ calls)) frame
+frame_later m call calls frame rises session carried = by (number (call ∷ calls) == m) refl
+  where
+    by : (b : Bool) → (number (call ∷ calls) == m) ≡ b → IsCarried (cond b (call ∷ calls) (up_to m calls)) frame
+    by true is = in_present m call calls frame rises (eqb-true (number (call ∷ calls)) m is) session carried
+    by false other = carried
+
+-- a frame as its sender gave it in its session
+abbrev IsThere : List EndEntry → Frame → Type 0
+IsThere calls frame = IsCarried (up_to frame.session calls) frame
+
+later_all : (call : EndEntry) (calls : List EndEntry) (frames : List Frame) → Rises (call ∷ calls) → AllByRecursion (IsThere calls) frames → AllByRecursion (IsThere (call ∷ calls)) frames
+later_all call calls frames rises all = all_weaker (IsThere calls) (IsThere (call ∷ calls)) (λ frame there. frame_later frame.session call calls frame rises refl there) frames all
+
+-- what an end gives is of its present session
+now_there : (calls : List EndEntry) (frame : Frame) → IsCarried calls frame → IsThere calls frame
+now_there calls frame carried = subst (λ whole. IsCarried whole frame) (sym (up_to_present frame.session calls (sym carried.is_of_session))) carried
 
 -- by right calls all that they accepted had come
 all_came : (me peer : ℕ) (limits : Limits) (calls : List EndEntry) → AreRightCalls me peer limits calls → AllCame calls
 all_came me peer limits [] right = tt
 all_came me peer limits (call ∷ calls) right = (right_came me peer limits call calls right.0, all_came me peer limits calls right.1)
 
--- each frame that right calls of one session gave is carried
-all_carried : (me peer : ℕ) (limits : Limits) (calls : List EndEntry) → AreRightCalls me peer limits calls → NeverOpens calls → AllByRecursion (IsCarried calls) (pair.transmitted_frames calls)
-all_carried me peer limits [] right never = tt
-all_carried me peer limits (ends.Transmit frames ∷ calls) right never =
-    all_append (IsCarried (ends.Transmit frames ∷ calls)) (pair.transmitted_frames calls) frames
-    (later_all (ends.Transmit frames) calls (pair.transmitted_frames calls) never (all_carried me peer limits calls right.1 never.1))
-    (now_carried (handed calls) (accepted_count calls) (ends.Transmit frames ∷ calls) frames refl (accepted_length calls (all_came me peer limits calls right.1)) (omega arith) (subst (AllByRecursion (IsGood (number calls) (handed calls) (accepted_count calls))) (sym right.0) (transmit_good me peer limits.window calls)))
-all_carried me peer limits (call ∷ calls) right never = later_all call calls (pair.transmitted_frames calls) never (all_carried me peer limits calls right.1 never.1)
+-- and their numbers rise
+pub all_rise : (me peer : ℕ) (limits : Limits) (calls : List EndEntry) → AreRightCalls me peer limits calls → Rises calls
+all_rise me peer limits [] right = tt
+all_rise me peer limits (call ∷ calls) right = (right_rises me peer limits call calls right.0, all_rise me peer limits calls right.1)
+
+-- each frame that right calls gave is as they gave it in its session
+all_carried : (me peer : ℕ) (limits : Limits) (calls : List EndEntry) → AreRightCalls me peer limits calls → AllByRecursion (IsThere calls) (pair.transmitted_frames calls)
+all_carried me peer limits [] right = tt
+all_carried me peer limits (ends.Transmit frames ∷ calls) right =
+    all_append (IsThere (ends.Transmit frames ∷ calls)) (pair.transmitted_frames calls) frames
+    (later_all (ends.Transmit frames) calls (pair.transmitted_frames calls) (all_rise me peer limits (ends.Transmit frames ∷ calls) right) (all_carried me peer limits calls right.1))
+    (all_weaker (IsCarried (ends.Transmit frames ∷ calls)) (IsThere (ends.Transmit frames ∷ calls)) (now_there (ends.Transmit frames ∷ calls)) frames
+    (now_carried (handed calls) (accepted_count calls) (ends.Transmit frames ∷ calls) frames refl (accepted_length calls (all_came me peer limits calls right.1)) (omega arith) (subst (AllByRecursion (IsGood (number calls) (handed calls) (accepted_count calls))) (sym right.0) (transmit_good me peer limits.window calls))))
+all_carried me peer limits (call ∷ calls) right = later_all call calls (pair.transmitted_frames calls) (all_rise me peer limits (call ∷ calls) right) (all_carried me peer limits calls right.1)
 
 -- ---- in a run
 
--- each frame that was ever given is as its sender's end gave it
-pub frames_carried : (n : ℕ) (limits : ℕ → Limits) (J : List Entry) → WorldRun n limits J → (frame : Frame) → Contains (transmitted_frames J) frame → IsCarried (calls_at frame.to (history_at frame.from n J)) frame
+-- each frame that was ever given is as its sender's end gave it in the session of the frame
+pub frames_carried : (n : ℕ) (limits : ℕ → Limits) (J : List Entry) → WorldRun n limits J → (frame : Frame) → Contains (transmitted_frames J) frame → IsCarried (calls_in n frame.from frame.to frame.session J) frame
 frames_carried n limits J run frame from =
     let calls : List EndEntry = calls_at frame.to (history_at frame.from n J) in
-    All-contains (IsCarried calls) (pair.transmitted_frames calls) frame
-    (All-from_recursion (IsCarried calls) (pair.transmitted_frames calls) (all_carried frame.from frame.to (limits frame.from) calls (calls_law frame.from n (limits frame.from) (deeds_at frame.from J) (right_deeds_at n limits J run frame.from) frame.to) (never_opens frame.from n frame.to (deeds_at frame.from J))))
+    All-contains (IsThere calls) (pair.transmitted_frames calls) frame
+    (All-from_recursion (IsThere calls) (pair.transmitted_frames calls) (all_carried frame.from frame.to (limits frame.from) calls (calls_law frame.from n (limits frame.from) (deeds_at frame.from J) (right_deeds_at n limits J run frame.from) frame.to)))
     (given_there n limits J frame run from)

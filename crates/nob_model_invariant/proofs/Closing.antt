@@ -26,12 +26,12 @@ use Rattle.nob_model_types.specs.declared.answer.Job.{Job}
 use Rattle.nob_frame.specs.declared.frame.Frame.{Frame}
 use Rattle.nob_model_session.specs.Right.{right_transmit}
 use Rattle.nob_model_session.specs.declared.entry.Kind.TheVariants.{Limited}
-use Rattle.nob_model_types.specs.Sessions.{is_peer, closed}
+use Rattle.nob_model_types.specs.Sessions.{is_peer}
 use Rattle.nob_model_work.specs.Gifts.{value_of}
 use Rattle.nob_model_history.specs.Ends.{calls_at}
 use Rattle.nob_model.proofs.Accepted.{accepted, err_ok}
 use Rattle.nob_model_acting.specs.Sending.{◌or_else◌, unless, value_refused, send_refused, has_numbers}
-use Rattle.nob_model.specs.Right.{right_export, right_dup, right_release, right_call, answer_of_reply, answer_of_stage, answer_of_call, take_of, right_take_reply, job_of, claim_of, right_claim, finish_of, right_finish, settle_count, settle_of, right_settle, last_number, clean_of, right_clean, right_withdraw, right_frames, right_after}
+use Rattle.nob_model.specs.Right.{right_export, right_dup, right_release, right_call, answer_of_reply, answer_of_stage, answer_of_call, take_of, right_take_reply, job_of, claim_of, right_claim, has_ended, finish_of, right_finish, settle_count, settle_of, right_settle, last_number, clean_of, right_clean, right_withdraw, right_frames, right_after}
 use Rattle.nob_model_acting.specs.Candidates.{to_settle, to_clean, to_claim}
 
 -- ---- answers that close nothing
@@ -138,7 +138,7 @@ claim_keeps made (Some message) reason e = if_closed (nat_le last_number made) (
 finish_keeps : (s : ℕ) (outcome : Outcome) (found : Option Run) (h : History) (reason : Reason) → Closes (finish_of s outcome found h) reason → ⊥
 unfolding finish_of
 finish_keeps s outcome None h reason e = err_ok refusals.NoJob _ e
-finish_keeps s outcome (Some run) h reason e = if_closed (closed run.message.from h.deeds) (Ok answers.Dropped) (unless (value_refused s h (value_of outcome) or_else send_refused run.message.from Limited h) answers.Finished) reason e (λ f. dropped_clash reason (ok_same _ _ f)) (λ f. finished_clash reason (unless_closed _ _ reason f))
+finish_keeps s outcome (Some run) h reason e = if_closed (has_ended run.message h) (Ok answers.Dropped) (unless (value_refused s h (value_of outcome) or_else send_refused run.message.from Limited h) answers.Finished) reason e (λ f. dropped_clash reason (ok_same _ _ f)) (λ f. finished_clash reason (unless_closed _ _ reason f))
 
 settle_keeps : (s n : ℕ) (found : Option Message) (h : History) (reason : Reason) → Closes (settle_of s n found h) reason → ⊥
 unfolding settle_of

@@ -1,9 +1,9 @@
 -- The copies of a reference that a space acted on since it last gave it up: where it has no surrogate there are none, and
--- while it is pending each waits in its message, or came on a session that closed.
+-- while it is pending each waits in its message, or came in a session that the space has left.
 use Rattle.std.proofs.Common.{◌≡◌, ℕ, ◌+◌, ◌-◌, ◌&&◌, ◌||◌, not, Bool, true, false, cond, List, [], ◌∷◌, ◌++◌, length, map, Option, Some, None, refl, sym, ap, subst, ◌∙◌, arith, ◌⊎◌, inl, inr}
 use Rattle.std.specs.Prelude.{◌==◌}
 use Rattle.std.specs.List.{AllByRecursion, list_any, list_all, slice_get}
-use Rattle.std.proofs.lemmas.Bool.{eq-eqb, and_parts, and_from, not-true, both_ways, not_from_false}
+use Rattle.std.proofs.lemmas.Bool.{eq-eqb, and_parts, and_from, or_left, or_right, not-true, both_ways, not_from_false}
 use Rattle.nob_ids.specs.Names.{is_same}
 use Rattle.nob_ids.specs.declared.limits.Limits.{Limits}
 use Rattle.nob_ids.specs.declared.wire_rep.WireRep.{WireRep}
@@ -13,7 +13,7 @@ use Rattle.nob_model_types.specs.declared.deed.Deed.{Deed}
 use Rattle.nob_model_types.specs.declared.deed.Deed.TheVariants as did
 use Rattle.nob_model_types.specs.declared.message.Message.{Message}
 use Rattle.nob_model_types.specs.declared.message.RefCopy.{RefCopy}
-use Rattle.nob_model_types.specs.Sessions.{is_peer, closed, item_at, acted}
+use Rattle.nob_model_types.specs.Sessions.{is_peer, closed, number, item_at, acted}
 use Rattle.nob_model_types.specs.Turns.{turns, is_own, is_resolved, is_pending, is_granted, is_refused, is_standing, with_clean, wants_dirty, carries}
 use Rattle.nob_model_types.specs.Messages.{message_after, is_of}
 use Rattle.nob_model_work.specs.Work.{work}
@@ -28,12 +28,13 @@ use Rattle.nob_model.proofs.Carrying.{Carries, all_carry, all_found}
 use Rattle.nob_model.proofs.Premises.{took_turns}
 use Rattle.nob_model.proofs.Waiting.{settled_message, act_number, all_weaker}
 use Rattle.nob_model_journal.specs.Losses.{is_carried, sources}
+use Rattle.nob_model_journal.specs.declared.losses.Source.{Source}
 use Rattle.nob_model_invariant.proofs.Clients.{asks_peer}
-use Rattle.nob_model_invariant.proofs.Lists.{all_both, place_in_whole, some_same}
+use Rattle.nob_model_holdings.proofs.Lists.{all_both, place_in_whole, some_same}
 use Rattle.nob_model_invariant.proofs.Settling.{waits_more}
-use Rattle.nob_model_invariant.specs.Copies.{copies}
+use Rattle.nob_model_invariant.specs.Copies.{is_waiting}
 use Rattle.nob_model_invariant.proofs.Denied.{carried_some}
-use Rattle.nob_model_invariant.proofs.Resting.{rests, rests_on, rests_new, open_before}
+use Rattle.nob_model_invariant.proofs.Resting.{rests, rests_on, waits_new, open_before}
 use Rattle.nob_model_invariant.proofs.Standing.{WasPending, was_idle, was_pending}
 
 -- ---- items that were acted on
@@ -81,48 +82,45 @@ waiting_acted s n limits (deed ∷ D) right =
 
 -- ---- copies
 
--- a copy of a reference is of an item that was acted on and carries it
-abbrev pub IsCopyOf : WireRep → List Deed → (ℕ × ℕ) → Type 0
-IsCopyOf rep D copy = (item : Item) × StandsAt copy.0 copy.1 item D × (carries rep item ≡ true)
+-- whether a copy came in the session in which the space is
+abbrev pub is_present : List Deed → Source → Bool
+is_present D copy = copy.session == number copy.from D
 
-copy_on : (rep : WireRep) (deed : Deed) (D : List Deed) (copy : ℕ × ℕ) → IsCopyOf rep D copy → IsCopyOf rep (deed ∷ D) copy
-copy_on rep deed D copy its = (its.0, stands_on copy.0 copy.1 its.0 deed D its.1, its.2)
+-- a copy of a reference that came in the present session is of an item that was acted on and carries it; and what came from the owner came in that
+pub record IsCopyOf (rep : WireRep) (D : List Deed) (copy : Source) : Type 0 where
+  pub of_owner : is_own copy.from rep ≡ true → is_present D copy ≡ true
+  pub acted_on : is_present D copy ≡ true → (item : Item) × StandsAt copy.from copy.number item D × (carries rep item ≡ true)
 
-copies_on : (s n : ℕ) (rep : WireRep) (deed : Deed) (D : List Deed) → AllByRecursion (IsCopyOf rep D) (copies s n rep D) → AllByRecursion (IsCopyOf rep (deed ∷ D)) (copies s n rep D)
-copies_on s n rep deed D all = all_weaker (IsCopyOf rep D) (IsCopyOf rep (deed ∷ D)) (copy_on rep deed D) (copies s n rep D) all
+copy_on : (rep : WireRep) (deed : Deed) (D : List Deed) (copy : Source) → IsCopyOf rep D copy → IsCopyOf rep (deed ∷ D) copy
+copy_on rep deed D copy its = record {
+  of_owner = its.of_owner;
+  acted_on = λ present. let found = its.acted_on present in (found.0, stands_on copy.from copy.number found.0 deed D found.1, found.2);
+}
 
-new_copied : (s n : ℕ) (limits : Limits) (rep : WireRep) (p k : ℕ) (D : List Deed) → AreRightDeeds s n limits (did.Act p k ∷ D) → (found : Option Item) → item_at p k D ≡ found → AllByRecursion (IsCopyOf rep (did.Act p k ∷ D)) (copies s n rep D) → AllByRecursion (IsCopyOf rep (did.Act p k ∷ D)) (cond (is_carried rep found) ((p, k) ∷ copies s n rep D) (copies s n rep D))
+copies_on : (s n : ℕ) (rep : WireRep) (deed : Deed) (D : List Deed) → AllByRecursion (IsCopyOf rep D) (sources s n rep D) → AllByRecursion (IsCopyOf rep (deed ∷ D)) (sources s n rep D)
+copies_on s n rep deed D all = all_weaker (IsCopyOf rep D) (IsCopyOf rep (deed ∷ D)) (copy_on rep deed D) (sources s n rep D) all
+
+-- the copy that comes from p in item k
+abbrev pub new_source : (p k : ℕ) → List Deed → Source
+new_source p k D = record { from = p; session = number p D; number = k }
+
+new_copied : (s n : ℕ) (limits : Limits) (rep : WireRep) (p k : ℕ) (D : List Deed) → AreRightDeeds s n limits (did.Act p k ∷ D) → (found : Option Item) → item_at p k D ≡ found → AllByRecursion (IsCopyOf rep (did.Act p k ∷ D)) (sources s n rep D) → AllByRecursion (IsCopyOf rep (did.Act p k ∷ D)) (cond (is_carried rep found) (new_source p k D ∷ sources s n rep D) (sources s n rep D))
 new_copied s n limits rep p k D right None is all = all
 new_copied s n limits rep p k D right (Some item) is all = by (carries rep item) refl
   where
-    by : (b : Bool) → carries rep item ≡ b → AllByRecursion (IsCopyOf rep (did.Act p k ∷ D)) (cond b ((p, k) ∷ copies s n rep D) (copies s n rep D))
-    by true carried = ((item, stands_new s n limits p k item D right is, carried), all)
+    by : (b : Bool) → carries rep item ≡ b → AllByRecursion (IsCopyOf rep (did.Act p k ∷ D)) (cond b (new_source p k D ∷ sources s n rep D) (sources s n rep D))
+    by true carried = (record { of_owner = λ own. eq-eqb (number p D) (number p D) refl; acted_on = λ present. (item, stands_new s n limits p k item D right is, carried) }, all)
     by false carried = all
 
 cleaned : {X : Type 0} (P : X → Type 0) (b : Bool) (xs : List X) → AllByRecursion P xs → AllByRecursion P (cond b [] xs)
 cleaned P true xs all = tt
 cleaned P false xs all = all
 
-pub copies_acted : (s n : ℕ) (limits : Limits) (rep : WireRep) (D : List Deed) → AreRightDeeds s n limits D → AllByRecursion (IsCopyOf rep D) (copies s n rep D)
+pub copies_acted : (s n : ℕ) (limits : Limits) (rep : WireRep) (D : List Deed) → AreRightDeeds s n limits D → AllByRecursion (IsCopyOf rep D) (sources s n rep D)
 copies_acted s n limits rep [] right = tt
 copies_acted s n limits rep (did.Act p k ∷ D) right = new_copied s n limits rep p k D right (item_at p k D) refl (copies_on s n rep (did.Act p k) D (copies_acted s n limits rep D right.1))
-copies_acted s n limits rep (did.Clean other ∷ D) right = cleaned (IsCopyOf rep (did.Clean other ∷ D)) (is_same rep other && (turns s n rep D).asks) (copies s n rep D) (copies_on s n rep (did.Clean other) D (copies_acted s n limits rep D right.1))
+copies_acted s n limits rep (did.Clean other ∷ D) right = cleaned (IsCopyOf rep (did.Clean other ∷ D)) (is_same rep other && (turns s n rep D).asks) (sources s n rep D) (copies_on s n rep (did.Clean other) D (copies_acted s n limits rep D right.1))
 copies_acted s n limits rep (deed ∷ D) right = copies_on s n rep deed D (copies_acted s n limits rep D right.1)
-
--- the spaces from which the copies came
-pub sources_are : (s n : ℕ) (rep : WireRep) (D : List Deed) → sources s n rep D ≡ map (λ (copy : ℕ × ℕ). copy.0) (copies s n rep D)
-sources_are s n rep [] = refl
-sources_are s n rep (did.Act p k ∷ D) = by (is_carried rep (item_at p k D)) (sources_are s n rep D)
-  where
-    by : (b : Bool) → sources s n rep D ≡ map (λ (copy : ℕ × ℕ). copy.0) (copies s n rep D) → cond b (p ∷ sources s n rep D) (sources s n rep D) ≡ map (λ (copy : ℕ × ℕ). copy.0) (cond b ((p, k) ∷ copies s n rep D) (copies s n rep D))
-    by true same = ap (λ (ps : List ℕ). p ∷ ps) same
-    by false same = same
-sources_are s n rep (did.Clean other ∷ D) = by (is_same rep other && (turns s n rep D).asks) (sources_are s n rep D)
-  where
-    by : (b : Bool) → sources s n rep D ≡ map (λ (copy : ℕ × ℕ). copy.0) (copies s n rep D) → cond b [] (sources s n rep D) ≡ map (λ (copy : ℕ × ℕ). copy.0) (cond b [] (copies s n rep D))
-    by true same = refl
-    by false same = same
-sources_are s n rep (deed ∷ D) = sources_are s n rep D
 
 -- ---- a message that is settled carries nothing that is pending
 
@@ -164,7 +162,7 @@ same_at found x y one other = some_same x y (sym one ∙ other)
 same_pair : (k : ℕ) (x y : Item) → ◌≡◌ {A = ℕ × Option Item} (k, Some x) (k, Some y) → x ≡ y
 same_pair k x y same = some_same x y (ap (λ (pair : ℕ × Option Item). pair.1) same)
 
-settle_not_pending : (s n : ℕ) (limits : Limits) (rep : WireRep) (p k : ℕ) (D : List Deed) → AreRightDeeds s n limits (did.Settle p k ∷ D) → closed rep.owner D ≡ false → is_pending (turns s n rep D) ≡ true → IsCopyOf rep D (p, k) → ⊥
+settle_not_pending : (s n : ℕ) (limits : Limits) (rep : WireRep) (p k : ℕ) (D : List Deed) → AreRightDeeds s n limits (did.Settle p k ∷ D) → closed rep.owner D ≡ false → is_pending (turns s n rep D) ≡ true → (item : Item) × StandsAt p k item D × (carries rep item ≡ true) → ⊥
 settle_not_pending s n limits rep p k D right up pending copy =
     let its = settled_item s n limits p k D right in
     let m : Message = its.0 in
@@ -174,28 +172,46 @@ settle_not_pending s n limits rep p k D right up pending copy =
 
 -- ---- one deed more
 
--- a copy waits in its message, or came on a session that closed
-abbrev pub Rests : (s n : ℕ) → List Deed → (ℕ × ℕ) → Type 0
-Rests s n D copy = rests s n copy.0 copy.1 D ≡ true
+-- a copy waits in its message, or the space has left the session in which it came
+abbrev pub Rests : (s n : ℕ) → List Deed → Source → Type 0
+Rests s n D copy = (is_waiting copy.from copy.number (work s n D).waiting || (closed copy.from D || not (is_present D copy))) ≡ true
+
+rests_then : (waits shut present : Bool) → (waits || shut) ≡ true → (waits || (shut || not present)) ≡ true
+rests_then true shut present is = refl
+rests_then false true present is = refl
+rests_then false false present is = cc
+
+-- a copy of the present session waits, or that session has closed
+pub rests_now : (waits shut present : Bool) → present ≡ true → (waits || (shut || not present)) ≡ true → (waits || shut) ≡ true
+rests_now true shut present is rest = refl
+rests_now false true present is rest = refl
+rests_now false false true is rest = cc
+rests_now false false false is rest = cc
 
 -- how it stands with the copies of a reference
 pub record AreCopied (s n : ℕ) (rep : WireRep) (D : List Deed) : Type 0 where
-  pub none : is_peer s n rep.owner ≡ true → closed rep.owner D ≡ false → is_standing (turns s n rep D) ≡ false → copies s n rep D ≡ []
-  pub wait : closed rep.owner D ≡ false → is_pending (turns s n rep D) ≡ true → AllByRecursion (Rests s n D) (copies s n rep D)
+  pub none : is_peer s n rep.owner ≡ true → closed rep.owner D ≡ false → is_standing (turns s n rep D) ≡ false → sources s n rep D ≡ []
+  pub wait : closed rep.owner D ≡ false → is_pending (turns s n rep D) ≡ true → AllByRecursion (Rests s n D) (sources s n rep D)
 
 -- while a reference is pending its copies rest
-copies_rest : (s n : ℕ) (limits : Limits) (rep : WireRep) (deed : Deed) (D : List Deed) → AreRightDeeds s n limits (deed ∷ D) → closed rep.owner D ≡ false → is_pending (turns s n rep D) ≡ true → AllByRecursion (Rests s n D) (copies s n rep D) → AllByRecursion (Rests s n (deed ∷ D)) (copies s n rep D)
+copies_rest : (s n : ℕ) (limits : Limits) (rep : WireRep) (deed : Deed) (D : List Deed) → AreRightDeeds s n limits (deed ∷ D) → closed rep.owner D ≡ false → is_pending (turns s n rep D) ≡ true → AllByRecursion (Rests s n D) (sources s n rep D) → AllByRecursion (Rests s n (deed ∷ D)) (sources s n rep D)
 copies_rest s n limits rep deed D right up pending all =
-    all_both (IsCopyOf rep D) (Rests s n D) (Rests s n (deed ∷ D)) one (copies s n rep D) (copies_acted s n limits rep D right.1) all
+    all_both (IsCopyOf rep D) (Rests s n D) (Rests s n (deed ∷ D)) one (sources s n rep D) (copies_acted s n limits rep D right.1) all
   where
-    on : (copy : ℕ × ℕ) → IsCopyOf rep D copy → (Rests s n (deed ∷ D) copy) ⊎ (deed ≡ did.Settle copy.0 copy.1) → Rests s n (deed ∷ D) copy
-    on copy its (inl rest) = rest
-    on copy its (inr settles) = absurd (settle_not_pending s n limits rep copy.0 copy.1 D (subst (λ (d : Deed). AreRightDeeds s n limits (d ∷ D)) settles right) up pending its)
+    on : (copy : Source) → IsCopyOf rep D copy → is_present D copy ≡ true → (rests s n copy.from copy.number (deed ∷ D) ≡ true) ⊎ (deed ≡ did.Settle copy.from copy.number) → Rests s n (deed ∷ D) copy
+    on copy its present (inl rest) = rests_then (is_waiting copy.from copy.number (work s n (deed ∷ D)).waiting) (closed copy.from (deed ∷ D)) (is_present (deed ∷ D) copy) rest
+    on copy its present (inr settles) = absurd (settle_not_pending s n limits rep copy.from copy.number D (subst (λ (d : Deed). AreRightDeeds s n limits (d ∷ D)) settles right) up pending (its.acted_on present))
 
-    one : (copy : ℕ × ℕ) → IsCopyOf rep D copy → Rests s n D copy → Rests s n (deed ∷ D) copy
-    one copy its rest = on copy its (rests_on s n limits copy.0 copy.1 deed D right rest)
+    by : (copy : Source) → IsCopyOf rep D copy → Rests s n D copy → (b : Bool) → is_present D copy ≡ b → Rests s n (deed ∷ D) copy
+    by copy its rest true present =
+        on copy its present
+        (rests_on s n limits copy.from copy.number deed D right (rests_now (is_waiting copy.from copy.number (work s n D).waiting) (closed copy.from D) (is_present D copy) present rest))
+    by copy its rest false other = or_right (is_waiting copy.from copy.number (work s n (deed ∷ D)).waiting) _ (or_right (closed copy.from (deed ∷ D)) (not (is_present D copy)) (not_from_false (is_present D copy) other))
 
-other_copied : (s n : ℕ) (limits : Limits) (rep : WireRep) (deed : Deed) (D : List Deed) → AreRightDeeds s n limits (deed ∷ D) → turns s n rep (deed ∷ D) ≡ turns s n rep D → copies s n rep (deed ∷ D) ≡ copies s n rep D → AreCopied s n rep D → AreCopied s n rep (deed ∷ D)
+    one : (copy : Source) → IsCopyOf rep D copy → Rests s n D copy → Rests s n (deed ∷ D) copy
+    one copy its rest = by copy its rest (is_present D copy) refl
+
+other_copied : (s n : ℕ) (limits : Limits) (rep : WireRep) (deed : Deed) (D : List Deed) → AreRightDeeds s n limits (deed ∷ D) → turns s n rep (deed ∷ D) ≡ turns s n rep D → sources s n rep (deed ∷ D) ≡ sources s n rep D → AreCopied s n rep D → AreCopied s n rep (deed ∷ D)
 other_copied s n limits rep deed D right same also before = record {
   none = λ peer up idle. also ∙ before.none peer (open_before rep.owner deed D up) (ap is_standing (sym same) ∙ idle);
   wait = λ up pending.
@@ -208,11 +224,11 @@ carried_false : (carried wanted : Bool) → (carried && wanted) ≡ false → wa
 carried_false true wanted none is = absurd (both_ways wanted none is)
 carried_false false wanted none is = refl
 
-new_rests : (s n : ℕ) (rep : WireRep) (p k : ℕ) (D : List Deed) (found : Option Item) → item_at p k D ≡ found → is_carried rep found ≡ true → rests s n p k (did.Act p k ∷ D) ≡ true
+new_rests : (s n : ℕ) (rep : WireRep) (p k : ℕ) (D : List Deed) (found : Option Item) → item_at p k D ≡ found → is_carried rep found ≡ true → Rests s n (did.Act p k ∷ D) (new_source p k D)
 new_rests s n rep p k D None is carried = cc
-new_rests s n rep p k D (Some item) is carried = rests_new s n p k item D is (carried_some rep (counted_in item) carried)
+new_rests s n rep p k D (Some item) is carried = or_left (is_waiting p k (work s n (did.Act p k ∷ D)).waiting) _ (waits_new s n p k item D is (carried_some rep (counted_in item) carried))
 
-more_rest : (P : (ℕ × ℕ) → Type 0) (b : Bool) (copy : ℕ × ℕ) (cs : List (ℕ × ℕ)) → (b ≡ true → P copy) → AllByRecursion P cs → AllByRecursion P (cond b (copy ∷ cs) cs)
+more_rest : (P : Source → Type 0) (b : Bool) (copy : Source) (cs : List Source) → (b ≡ true → P copy) → AllByRecursion P cs → AllByRecursion P (cond b (copy ∷ cs) cs)
 more_rest P true copy cs its all = (its refl, all)
 more_rest P false copy cs its all = all
 
@@ -222,22 +238,22 @@ act_copied s n limits rep p k D right before = record { none = none; wait = wait
     took : TookTurns s n (did.Act p k ∷ D)
     took = took_turns s n limits (did.Act p k ∷ D) right
 
-    none : is_peer s n rep.owner ≡ true → closed rep.owner D ≡ false → is_standing (turns s n rep (did.Act p k ∷ D)) ≡ false → copies s n rep (did.Act p k ∷ D) ≡ []
+    none : is_peer s n rep.owner ≡ true → closed rep.owner D ≡ false → is_standing (turns s n rep (did.Act p k ∷ D)) ≡ false → sources s n rep (did.Act p k ∷ D) ≡ []
     none peer up idle =
         let was = was_idle s n p rep (item_at p k D) D took.0 (shapes s n rep D took.1) idle in
         let wanted : wants_dirty s n rep D (turns s n rep D) ≡ true = and_from _ _ (and_from _ _ peer (not_from_false _ up)) (not_from_false _ was.0) in
-        ap (λ (b : Bool). cond b ((p, k) ∷ copies s n rep D) (copies s n rep D)) (carried_false (is_carried rep (item_at p k D)) _ was.1 wanted) ∙ before.none peer up was.0
+        ap (λ (b : Bool). cond b (new_source p k D ∷ sources s n rep D) (sources s n rep D)) (carried_false (is_carried rep (item_at p k D)) _ was.1 wanted) ∙ before.none peer up was.0
 
-    earlier : closed rep.owner D ≡ false → WasPending s n rep (item_at p k D) D → AllByRecursion (Rests s n (did.Act p k ∷ D)) (copies s n rep D)
+    earlier : closed rep.owner D ≡ false → WasPending s n rep (item_at p k D) D → AllByRecursion (Rests s n (did.Act p k ∷ D)) (sources s n rep D)
     earlier up (inl pending) = copies_rest s n limits rep (did.Act p k) D right up pending (before.wait up pending)
     earlier up (inr asked) =
         let wanted = (and_parts (is_carried rep (item_at p k D)) _ asked).1 in
         let open_peer = and_parts _ _ wanted in
         subst (AllByRecursion (Rests s n (did.Act p k ∷ D))) (sym (before.none (and_parts _ _ open_peer.0).0 up (not-true _ open_peer.1))) tt
 
-    wait : closed rep.owner D ≡ false → is_pending (turns s n rep (did.Act p k ∷ D)) ≡ true → AllByRecursion (Rests s n (did.Act p k ∷ D)) (copies s n rep (did.Act p k ∷ D))
+    wait : closed rep.owner D ≡ false → is_pending (turns s n rep (did.Act p k ∷ D)) ≡ true → AllByRecursion (Rests s n (did.Act p k ∷ D)) (sources s n rep (did.Act p k ∷ D))
     wait up pending =
-        more_rest (Rests s n (did.Act p k ∷ D)) (is_carried rep (item_at p k D)) (p, k) (copies s n rep D) (new_rests s n rep p k D (item_at p k D) refl)
+        more_rest (Rests s n (did.Act p k ∷ D)) (is_carried rep (item_at p k D)) (new_source p k D) (sources s n rep D) (new_rests s n rep p k D (item_at p k D) refl)
         (earlier up (was_pending s n p rep (item_at p k D) D took.0 pending))
 
 clean_copied : (s n : ℕ) (limits : Limits) (rep other : WireRep) (D : List Deed) → AreRightDeeds s n limits (did.Clean other ∷ D) → AreCopied s n rep D → AreCopied s n rep (did.Clean other ∷ D)
@@ -251,10 +267,10 @@ clean_copied s n limits rep other D right before = by (is_same rep other) refl
         let asks : (turns s n rep D).asks ≡ true = (granted_answered (turns s n rep D) (granted same)).0 in
         let turned : turns s n rep (did.Clean other ∷ D) ≡ with_clean (turns s n rep D) = ap (λ (b : Bool). cond b (with_clean (turns s n rep D)) (turns s n rep D)) same in
         record {
-          none = λ peer up idle. ap (λ (b : Bool). cond (b && (turns s n rep D).asks) [] (copies s n rep D)) same ∙ ap (λ (b : Bool). cond b [] (copies s n rep D)) asks;
+          none = λ peer up idle. ap (λ (b : Bool). cond (b && (turns s n rep D).asks) [] (sources s n rep D)) same ∙ ap (λ (b : Bool). cond b [] (sources s n rep D)) asks;
           wait = λ up pending. absurd (both_ways (is_pending (with_clean (turns s n rep D))) (after_clean (turns s n rep D) (granted same)).1.0 (ap is_pending (sym turned) ∙ pending));
         }
-    by false same = other_copied s n limits rep (did.Clean other) D right (ap (λ (b : Bool). cond b (with_clean (turns s n rep D)) (turns s n rep D)) same) (ap (λ (b : Bool). cond (b && (turns s n rep D).asks) [] (copies s n rep D)) same) before
+    by false same = other_copied s n limits rep (did.Clean other) D right (ap (λ (b : Bool). cond b (with_clean (turns s n rep D)) (turns s n rep D)) same) (ap (λ (b : Bool). cond (b && (turns s n rep D).asks) [] (sources s n rep D)) same) before
 
 -- in every list of right deeds
 pub are_copied : (s n : ℕ) (limits : Limits) (rep : WireRep) (D : List Deed) → AreRightDeeds s n limits D → AreCopied s n rep D

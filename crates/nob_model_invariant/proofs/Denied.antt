@@ -2,7 +2,7 @@
 use Rattle.std.proofs.Common.{◌≡◌, ℕ, ◌+◌, ◌≤◌, ◌&&◌, ◌||◌, not, Bool, true, false, cond, List, [], ◌∷◌, ◌++◌, length, refl, sym, ap, subst, ◌∙◌, arith}
 use Rattle.std.specs.Prelude.{◌==◌}
 use Rattle.std.specs.List.{AllByRecursion, list_any}
-use Rattle.std.proofs.lemmas.Bool.{eqb-true, eq-eqb, ne_eqb, and_from, and_right, or_right, both_ways, not_from_false, true_from_ne_false}
+use Rattle.std.proofs.lemmas.Bool.{eqb-true, eq-eqb, ne_eqb, and_parts, and_from, and_right, or_right, both_ways, not_from_false, true_from_ne_false}
 use Rattle.std.proofs.lemmas.List.{append-nil, length-append, nil_from_length}
 use Rattle.std.proofs.lemmas.List.Elements.{filter_map-append}
 use Rattle.nob_ids.specs.Names.{is_same}
@@ -11,7 +11,7 @@ use Rattle.nob_ids.specs.declared.wire_rep.WireRep.{WireRep}
 use Rattle.nob_item.specs.Kinds.{counted_in}
 use Rattle.nob_model_types.specs.declared.deed.Deed.{Deed}
 use Rattle.nob_model_types.specs.declared.deed.Deed.TheVariants as did
-use Rattle.nob_model_types.specs.Sessions.{is_peer, closed, item_at, acted}
+use Rattle.nob_model_types.specs.Sessions.{is_peer, closed, number, item_at, acted}
 use Rattle.nob_model_types.specs.Objects.{is_exported, is_withdrawn, is_live}
 use Rattle.nob_model_types.specs.Turns.{carries}
 use Rattle.nob_model_work.specs.declared.gifts.Gift.{Gift}
@@ -20,9 +20,9 @@ use Rattle.nob_model_work.specs.Gifts.{gifts_of, gifts}
 use Rattle.nob_model_history.specs.declared.transit.SentItem.{SentItem}
 use Rattle.nob_model_history.specs.Histories.{history_of}
 use Rattle.nob_model_history.specs.Ends.{items_to}
-use Rattle.nob_model_history.specs.Transit.{is_some_of, is_settle_of, is_settled, is_pinned, pins, sent}
-use Rattle.nob_model_history.proofs.Numbered.{items_sent_to, gifts_sent_to}
-use Rattle.nob_model_history.proofs.Sending.{next_item, new_items, sent_more}
+use Rattle.nob_model_history.specs.Transit.{is_sent_to, next_sent, is_some_of, is_of_present, is_settle_of, is_settled, is_pinned, pins, sent}
+use Rattle.nob_model_history.proofs.Numbered.{items_sent_in, gifts_sent_now}
+use Rattle.nob_model_history.proofs.Sending.{new_items, sent_more}
 use Rattle.nob_model_history.proofs.Turning.{same_ref}
 use Rattle.nob_model.specs.Right.{own_ref}
 use Rattle.nob_model.specs.Lists.{AreRightDeeds}
@@ -30,13 +30,13 @@ use Rattle.nob_model.proofs.Carrying.{all_filter}
 use Rattle.nob_model.proofs.Guarding.{GuardsItem, IsGuarded, AreGuarded, gifts_guarded, pinned_law}
 use Rattle.nob_model.proofs.Waiting.{act_open, all_weaker}
 use Rattle.nob_model_invariant.specs.Asking.{answer_in, answers_among, asks_among, items_among, has_no, dirties_in}
-use Rattle.nob_model_invariant.proofs.Holdings.{pins_stand}
-use Rattle.nob_model_invariant.proofs.Lists.{all_append}
+use Rattle.nob_model_holdings.proofs.Holdings.{pins_stand}
+use Rattle.nob_model_holdings.proofs.Lists.{all_append}
 use Rattle.nob_model_invariant.proofs.Owners.{gave_of, asked_of, are_answered}
 
--- what went to client c with a reference to the object of an index is settled
+-- what went to client c in the session in which space s is, with a reference to the object of an index, is settled
 abbrev pub IsSettledTo : (s c x : ℕ) → List Deed → SentItem → Type 0
-IsSettledTo s c x D one = (one.to == c) ≡ true → carries (own_ref s x) one.item ≡ true → is_settled c one.number D ≡ true
+IsSettledTo s c x D one = is_sent_to c (number c D) one ≡ true → carries (own_ref s x) one.item ≡ true → is_settled c one.number D ≡ true
 
 -- ---- what an item carries
 
@@ -60,14 +60,17 @@ unpinned_settled : (s n : ℕ) (limits : Limits) (c x : ℕ) (D : List Deed) →
 unpinned_settled s n limits c x D right dead up one stand to carried = true_from_ne_false (is_settled c one.number D) pinned
   where
     same : one.to ≡ c
-    same = eqb-true one.to c to
+    same = eqb-true one.to c (and_parts (one.to == c) (one.session == number c D) to).0
+
+    present : is_of_present D one ≡ true
+    present = ap (λ (p : ℕ). one.session == number p D) same ∙ (and_parts (one.to == c) (one.session == number c D) to).1
 
     alive : 1 ≤ pins (own_ref s x) (history_of s n D) → ⊥
     alive some = both_ways (is_live s x D) dead (pinned_law s n limits D right x (ne_eqb (pins (own_ref s x) (history_of s n D)) 0 (λ none. omega (arith, some, none))))
 
     pinned : is_settled c one.number D ≡ false → ⊥
     pinned unsettled =
-        let pin : is_pinned D one ≡ true = and_from _ _ (and_from _ _ (carried_some (own_ref s x) (counted_in one.item) carried) (not_from_false _ (ap (λ (p : ℕ). is_settled p one.number D) same ∙ unsettled))) (not_from_false _ (ap (λ (p : ℕ). closed p D) same ∙ up)) in
+        let pin : is_pinned D one ≡ true = and_from _ _ (and_from _ _ (and_from _ _ (carried_some (own_ref s x) (counted_in one.item) carried) present) (not_from_false _ (ap (λ (p : ℕ). is_settled p one.number D) same ∙ unsettled))) (not_from_false _ (ap (λ (p : ℕ). closed p D) same ∙ up)) in
         alive (carried_has (λ rep. 1 ≤ pins rep (history_of s n D)) (own_ref s x) (counted_in one.item) (stand pin) carried)
 
 settled_later : (now before : Bool) → before ≡ true → (now || before) ≡ true
@@ -84,9 +87,9 @@ still_settled s c x deed D all are = all_weaker (IsSettledTo s c x D) (IsSettled
 -- ---- what is sent now
 
 -- nothing that is sent carries a reference to an own object that isn't live
-new_settled : (s c x : ℕ) (D E : List Deed) (more : List Gift) (before : List SentItem) → is_live s x D ≡ false → AreGuarded s D more → AllByRecursion (IsSettledTo s c x E) (new_items before more)
+new_settled : (s c x : ℕ) (D E : List Deed) (more : List Gift) (before : List SentItem) → is_live s x D ≡ false → AreGuarded s D more → AllByRecursion (IsSettledTo s c x E) (new_items D before more)
 new_settled s c x D E [] before dead are = tt
-new_settled s c x D E (gift ∷ more) before dead are = (λ to carried. absurd (both_ways (is_live s x D) dead (carried_has (IsGuarded s D) (own_ref s x) (counted_in gift.item) are.0 carried (eq_self s))), new_settled s c x D E more (before ++ next_item before gift ∷ []) dead are.1)
+new_settled s c x D E (gift ∷ more) before dead are = (λ to carried. absurd (both_ways (is_live s x D) dead (carried_has (IsGuarded s D) (own_ref s x) (counted_in gift.item) are.0 carried (eq_self s))), new_settled s c x D E more (before ++ next_sent D before gift ∷ []) dead are.1)
   where
     eq_self : (m : ℕ) → (m == m) ≡ true
     eq_self m = eq-eqb m m refl
@@ -121,8 +124,8 @@ same_answers : (s n : ℕ) (limits : Limits) (c x : ℕ) (deed : Deed) (D : List
 same_answers s n limits c x deed D right same =
     let more : List Bool = answers_among x (items_to c (gifts s n deed D (work s n D))) in
     let longer : gave_of s n c x (deed ∷ D) ≡ gave_of s n c x D ++ more =
-    ap (answers_among x) (gifts_sent_to c (gifts s n deed D (work s n D)) (sent (history_of s n D)))
-    ∙ filter_map-append (answer_in x) (items_sent_to c (sent (history_of s n D))) (items_to c (gifts s n deed D (work s n D))) in
+    ap (answers_among x) (gifts_sent_now c D (gifts s n deed D (work s n D)) (sent (history_of s n D)))
+    ∙ filter_map-append (answer_in x) (items_sent_in c (number c D) (sent (history_of s n D))) (items_to c (gifts s n deed D (work s n D))) in
     let now : length (gave_of s n c x (deed ∷ D)) ≡ dirties_in (asked_of c x (deed ∷ D)) = (are_answered s n limits c x (deed ∷ D) right).in_turn.each in
     let earlier : length (gave_of s n c x D) ≡ dirties_in (asked_of c x D) = (are_answered s n limits c x D right.1).in_turn.each in
     let size : length (gave_of s n c x D) + length more ≡ length (gave_of s n c x D) = sym (length-append (gave_of s n c x D) more) ∙ ap length (sym longer) ∙ now ∙ ap dirties_in same ∙ sym earlier in

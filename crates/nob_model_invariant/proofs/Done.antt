@@ -20,7 +20,7 @@ use Rattle.nob_model.proofs.Carrying.{all_found}
 use Rattle.nob_model.proofs.Doing.{was_answered}
 use Rattle.nob_model.proofs.Waiting.{settled_message, all_weaker}
 use Rattle.nob_model_invariant.specs.Settles.{is_in}
-use Rattle.nob_model_invariant.proofs.Lists.{all_append}
+use Rattle.nob_model_holdings.proofs.Lists.{all_append}
 use Rattle.nob_model_invariant.proofs.Settling.{waits_more, settles_of, settles_same, settles_now}
 use Rattle.nob_model_invariant.specs.Copies.{carries_any}
 use Rattle.nob_model_invariant.proofs.Resting.{rests, rests_on, rests_new}

@@ -20,7 +20,7 @@ use Rattle.nob_model.specs.Lists.{AreRight, AreRightDeeds}
 use Rattle.nob_model.proofs.Doing.{right_deeds}
 use Rattle.nob_model_journal.specs.Journals.{at, deeds_at, transmitted_frames}
 use Rattle.nob_model_journal.specs.Runs.{ArrivesGiven, WorldRun}
-use Rattle.nob_model_invariant.proofs.Lists.{some_same}
+use Rattle.nob_model_holdings.proofs.Lists.{some_same}
 
 -- ---- one entry more
 

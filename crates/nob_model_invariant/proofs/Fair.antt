@@ -1,10 +1,11 @@
--- On every list of deeds the messages of a Call outstanding and the Replies to it are together no more than the times that it
--- was acted on.
-use Rattle.std.proofs.Common.{◌≡◌, ℕ, ◌+◌, ◌≤◌, ◌&&◌, not, Bool, true, false, cond, List, [], ◌∷◌, ◌++◌, map, filter, find, Option, Some, None, if◌then◌else◌, refl, ap, ◌∙◌, arith}
-use Rattle.std.specs.Prelude.{◌==◌}
+-- On every list of right deeds the messages of a Call outstanding and the Replies to it are, in the present session, together no
+-- more than the times that it was acted on.
+use Rattle.std.proofs.Common.{◌≡◌, ℕ, ◌+◌, ◌≤◌, ◌&&◌, not, Bool, true, false, cond, List, [], ◌∷◌, ◌++◌, map, filter, find, Option, Some, None, if◌then◌else◌, refl, sym, ap, ◌∙◌, arith}
+use Rattle.std.specs.Prelude.{⊤, ◌==◌}
 use Rattle.std.specs.List.{cons_option}
-use Rattle.std.proofs.lemmas.Bool.{eqb-true, and_parts}
+use Rattle.std.proofs.lemmas.Bool.{eqb-true, eq-eqb, and_parts}
 use Rattle.std.proofs.lemmas.List.Elements.{filter_map-append}
+use Rattle.nob_ids.specs.declared.limits.Limits.{Limits}
 use Rattle.nob_item.specs.Kinds.{is_note}
 use Rattle.nob_item.specs.declared.item.Item.{Item}
 use Rattle.nob_item.specs.declared.item.Item.TheVariants as items
@@ -15,7 +16,7 @@ use Rattle.nob_model_types.specs.declared.event.Outcome.{Outcome}
 use Rattle.nob_model_types.specs.declared.deed.Deed.{Deed}
 use Rattle.nob_model_types.specs.declared.deed.Deed.TheVariants as did
 use Rattle.nob_model_types.specs.declared.message.Message.{Message}
-use Rattle.nob_model_types.specs.Sessions.{is_peer, item_at, acted}
+use Rattle.nob_model_types.specs.Sessions.{is_peer, number, item_at, acted}
 use Rattle.nob_model_types.specs.Messages.{new_message, message_after, is_of, is_not_from, replies_to, is_job, is_lost_message}
 use Rattle.nob_model_work.specs.declared.gifts.Gift.{Gift}
 use Rattle.nob_model_work.specs.declared.work.Outstanding.{Outstanding}
@@ -25,13 +26,20 @@ use Rattle.nob_model_work.specs.Gifts.{lost_call_reply, gifts_of_settle, status_
 use Rattle.nob_model_history.specs.Histories.{history_of}
 use Rattle.nob_model_history.specs.Ends.{items_to}
 use Rattle.nob_model_history.specs.Transit.{sent}
-use Rattle.nob_model_history.proofs.Numbered.{items_sent_to, gifts_sent_to}
-use Rattle.nob_model.proofs.Accepted.{found_passes}
+use Rattle.nob_model_history.proofs.Numbered.{items_sent_in}
+use Rattle.nob_model.specs.Right.{right_after}
+use Rattle.nob_model.specs.Lists.{AreRightDeeds}
+use Rattle.nob_model.proofs.Doing.{was_answered}
+use Rattle.nob_model.proofs.Accepted.{found_passes, finish_tells}
+use Rattle.nob_model.proofs.Carrying.{all_found}
 use Rattle.nob_model.proofs.Waiting.{all_weaker}
 use Rattle.nob_model_invariant.specs.Asking.{items_among}
 use Rattle.nob_model_invariant.specs.Counting.{count_of, makes_call, brings_call, runs_call, calls_outstanding}
 use Rattle.nob_model_invariant.proofs.Counts.{one_if, count_first, count_append, count_push, count_filter, count_without, count_dropped, count_mapped, count_none}
+use Rattle.nob_model_holdings.proofs.Lists.{some_same}
 use Rattle.nob_model_invariant.proofs.Notes.{may_speak, gives_notes}
+use Rattle.nob_model_invariant.proofs.BySession.{sent_now_more}
+use Rattle.nob_model_invariant.proofs.Coming.{waiting_present}
 
 -- ---- gifts
 
@@ -76,7 +84,12 @@ note_replies k (items.DirtyOk index) is = refl
 note_replies k (items.DirtyNo index) is = refl
 note_replies k (items.Clean index) is = refl
 
-module _ (p k : ℕ) where
+fewer_three : (a b c : Bool) → one_if (a && b && c) ≤ one_if (a && c)
+fewer_three true true c = omega arith
+fewer_three true false c = omega arith
+fewer_three false b c = omega arith
+
+module _ (p session k : ℕ) where
   -- how many Replies to p for Call k there are among gifts
   abbrev pub replied : List Gift → ℕ
   replied more = count_of (gives (replies_to k) p) more
@@ -99,20 +112,31 @@ module _ (p k : ℕ) where
 
   -- ---- what is outstanding
 
-  of_message : (m : Message) (q : ℕ) (item : Item) → m.from ≡ q → m.item ≡ item → one_if (brings_call p k m) ≡ one_if (q == p && makes_call k item)
-  of_message m q item from is = ap (λ (r : ℕ). one_if (r == p && makes_call k m.item)) from ∙ ap (λ (i : Item). one_if (q == p && makes_call k i)) is
+  parts_of : (m : Message) (q : ℕ) (item : Item) → m.from ≡ q → m.item ≡ item → one_if (brings_call p session k m) ≡ one_if (q == p && m.session == session && makes_call k item)
+  parts_of m q item from is = ap (λ (r : ℕ). one_if (r == p && m.session == session && makes_call k m.item)) from ∙ ap (λ (i : Item). one_if (q == p && m.session == session && makes_call k i)) is
 
-  message_fair : (q : ℕ) (m : Message) (item : Item) (W : Outstanding) → m.from ≡ q → m.item ≡ item → calls_outstanding p k (after_message m item W) ≤ calls_outstanding p k W + one_if (q == p && makes_call k item)
+  of_message : (m : Message) (q : ℕ) (item : Item) → m.from ≡ q → m.item ≡ item → one_if (brings_call p session k m) ≤ one_if (q == p && makes_call k item)
+  of_message m q item from is = let whole = parts_of m q item from is in let fewer = fewer_three (q == p) (m.session == session) (makes_call k item) in omega (arith, whole, fewer)
+
+  -- a message of the session
+  of_session : (m : Message) (q : ℕ) (item : Item) → m.from ≡ q → m.item ≡ item → (q ≡ p → m.session ≡ session) → one_if (brings_call p session k m) ≡ one_if (q == p && makes_call k item)
+  of_session m q item from is present = parts_of m q item from is ∙ by (q == p) refl
+    where
+      by : (b : Bool) → (q == p) ≡ b → one_if (b && m.session == session && makes_call k item) ≡ one_if (b && makes_call k item)
+      by true same = ap (λ (c : Bool). one_if (c && makes_call k item)) (eq-eqb m.session session (present (eqb-true q p same)))
+      by false other = refl
+
+  message_fair : (q : ℕ) (m : Message) (item : Item) (W : Outstanding) → m.from ≡ q → m.item ≡ item → calls_outstanding p session k (after_message m item W) ≤ calls_outstanding p session k W + one_if (q == p && makes_call k item)
   unfolding after_message
   message_fair q m (items.Call call target method value) W from is =
       let one = of_message m q (items.Call call target method value) from is in
-      let ready = count_push (brings_call p k) W.ready m in
-      let waiting = count_push (brings_call p k) W.waiting m in
-      elim (is_none_of m.copies) as (λ b. calls_outstanding p k (if b then make_ready m W else wait m W) ≤ calls_outstanding p k W + one_if (q == p && call == k)) [ true ↦ omega (arith, one, ready) | false ↦ omega (arith, one, waiting) ]
+      let ready = count_push (brings_call p session k) W.ready m in
+      let waiting = count_push (brings_call p session k) W.waiting m in
+      elim (is_none_of m.copies) as (λ b. calls_outstanding p session k (if b then make_ready m W else wait m W) ≤ calls_outstanding p session k W + one_if (q == p && call == k)) [ true ↦ omega (arith, one, ready) | false ↦ omega (arith, one, waiting) ]
   message_fair q m (items.Reply call status value) W from is =
       let one = of_message m q (items.Reply call status value) from is in
-      let waiting = count_push (brings_call p k) W.waiting m in
-      elim (is_none_of m.copies) as (λ b. calls_outstanding p k (with_calls (call_after_reply m.from call) (if b then make_reply m W else wait m W)) ≤ calls_outstanding p k W + one_if (q == p && false)) [ true ↦ omega arith | false ↦ omega (arith, one, waiting) ]
+      let waiting = count_push (brings_call p session k) W.waiting m in
+      elim (is_none_of m.copies) as (λ b. calls_outstanding p session k (with_calls (call_after_reply m.from call) (if b then make_reply m W else wait m W)) ≤ calls_outstanding p session k W + one_if (q == p && false)) [ true ↦ omega arith | false ↦ omega (arith, one, waiting) ]
   message_fair q m (items.Settle item) W from is = omega arith
   message_fair q m (items.Dirty index) W from is = omega arith
   message_fair q m (items.DirtyOk index) W from is = omega arith
@@ -120,56 +144,57 @@ module _ (p k : ℕ) where
   message_fair q m (items.Clean index) W from is = omega arith
 
   -- how often Call k from p is acted on, if this item from q is
-  abbrev taken : ℕ → Option Item → ℕ
+  abbrev pub taken : ℕ → Option Item → ℕ
   taken q found = cond (q == p) (count_of (makes_call k) (cons_option found [])) 0
 
   one_taken : (q : ℕ) (item : Item) → taken q (Some item) ≡ one_if (q == p && makes_call k item)
   one_taken q item = let first = count_first (makes_call k) item [] in elim (q == p) as (λ b. cond b (count_of (makes_call k) (item ∷ [])) 0 ≡ one_if (b && makes_call k item)) [ true ↦ omega (arith, first) | false ↦ refl ]
 
-  act_fair : (s n q j : ℕ) (D : List Deed) (found : Option Item) (W : Outstanding) → calls_outstanding p k (after_act s n q j D found W) ≤ calls_outstanding p k W + taken q found
+  act_fair : (s n q j : ℕ) (D : List Deed) (found : Option Item) (W : Outstanding) → calls_outstanding p session k (after_act s n q j D found W) ≤ calls_outstanding p session k W + taken q found
   unfolding after_act
   act_fair s n q j D None W = omega arith
   act_fair s n q j D (Some item) W = let fair = message_fair q (new_message s n q j item (did.Act q j ∷ D)) item W refl refl in let one = one_taken q item in omega (arith, fair, one)
 
-  settlement_fair : (q j : ℕ) (m : Message) (item : Item) (lost : Bool) (W : Outstanding) → m.from ≡ q → m.item ≡ item → find (is_of q j) W.waiting ≡ Some m → calls_outstanding p k (after_settlement m item lost (without_waiting q j W)) + replied (lost_call_reply q item lost) ≤ calls_outstanding p k W
+  settlement_fair : (q j : ℕ) (m : Message) (item : Item) (lost : Bool) (W : Outstanding) → m.from ≡ q → m.item ≡ item → (q ≡ p → m.session ≡ session) → find (is_of q j) W.waiting ≡ Some m → calls_outstanding p session k (after_settlement m item lost (without_waiting q j W)) + replied (lost_call_reply q item lost) ≤ calls_outstanding p session k W
   unfolding after_settlement lost_call_reply
-  settlement_fair q j m (items.Call call target method value) true W from is found =
-      let less = count_without (brings_call p k) (is_of q j) W.waiting m found in
-      let one = of_message m q (items.Call call target method value) from is in
+  settlement_fair q j m (items.Call call target method value) true W from is present found =
+      let less = count_without (brings_call p session k) (is_of q j) W.waiting m found in
+      let one = of_session m q (items.Call call target method value) from is present in
       let reply = one_reply q call 3 values.Unit in
       omega (arith, less, one, reply)
-  settlement_fair q j m (items.Call call target method value) false W from is found =
-      let less = count_without (brings_call p k) (is_of q j) W.waiting m found in
-      let ready = count_push (brings_call p k) W.ready m in
+  settlement_fair q j m (items.Call call target method value) false W from is present found =
+      let less = count_without (brings_call p session k) (is_of q j) W.waiting m found in
+      let ready = count_push (brings_call p session k) W.ready m in
       omega (arith, less, ready)
-  settlement_fair q j m (items.Reply call status value) true W from is found = let less = count_without (brings_call p k) (is_of q j) W.waiting m found in omega (arith, less)
-  settlement_fair q j m (items.Reply call status value) false W from is found = let less = count_without (brings_call p k) (is_of q j) W.waiting m found in omega (arith, less)
-  settlement_fair q j m (_) lost W from is found = let less = count_without (brings_call p k) (is_of q j) W.waiting m found in omega (arith, less)
+  settlement_fair q j m (items.Reply call status value) true W from is present found = let less = count_without (brings_call p session k) (is_of q j) W.waiting m found in omega (arith, less)
+  settlement_fair q j m (items.Reply call status value) false W from is present found = let less = count_without (brings_call p session k) (is_of q j) W.waiting m found in omega (arith, less)
+  settlement_fair q j m (_) lost W from is present found = let less = count_without (brings_call p session k) (is_of q j) W.waiting m found in omega (arith, less)
 
-  settle_fair : (s n q j : ℕ) (D : List Deed) (found : Option Message) (W : Outstanding) → find (is_of q j) W.waiting ≡ found → calls_outstanding p k (after_settle s n q j D found W) + replied (gifts_of_settle s n q j D found) ≤ calls_outstanding p k W
+  settle_fair : (s n q j : ℕ) (D : List Deed) (found : Option Message) (W : Outstanding) → ((m : Message) → found ≡ Some m → q ≡ p → m.session ≡ session) → find (is_of q j) W.waiting ≡ found → calls_outstanding p session k (after_settle s n q j D found W) + replied (gifts_of_settle s n q j D found) ≤ calls_outstanding p session k W
   unfolding after_settle gifts_of_settle
-  settle_fair s n q j D None W is = omega arith
-  settle_fair s n q j D (Some m) W is =
+  settle_fair s n q j D None W present is = omega arith
+  settle_fair s n q j D (Some m) W present is =
       let from : m.from ≡ q = eqb-true m.from q (and_parts (m.from == q) (m.number == j) (found_passes (is_of q j) W.waiting m is)).0 in
-      let fair = settlement_fair q j m m.item (is_lost_message s n D m) W from refl is in
+      let fair = settlement_fair q j m m.item (is_lost_message s n D m) W from refl (present m refl) is in
       let gift = settle_replies q j (lost_call_reply q m.item (is_lost_message s n D m)) in
       omega (arith, fair, gift)
 
-  claim_fair : (job : Job) (found : Option Message) (W : Outstanding) → find (is_job job) W.ready ≡ found → calls_outstanding p k (after_claim job found W) ≤ calls_outstanding p k W
+  claim_fair : (job : Job) (found : Option Message) (W : Outstanding) → find (is_job job) W.ready ≡ found → calls_outstanding p session k (after_claim job found W) ≤ calls_outstanding p session k W
   unfolding after_claim
   claim_fair job None W is = omega arith
   claim_fair job (Some m) W is =
-      let less = count_without (brings_call p k) (is_job job) W.ready m is in
-      let runs = count_first (runs_call p k) (record { job = job.job; message = m }) W.running in
+      let less = count_without (brings_call p session k) (is_job job) W.ready m is in
+      let runs = count_first (runs_call p session k) (record { job = job.job; message = m }) W.running in
       omega (arith, less, runs)
 
-  finish_fair : (j : ℕ) (outcome : Outcome) (found : Option Run) (W : Outstanding) → find (is_run j) W.running ≡ found → calls_outstanding p k (after_finish j W) + replied (gifts_of_finish outcome found) ≤ calls_outstanding p k W
+  finish_fair : (j : ℕ) (outcome : Outcome) (found : Option Run) (W : Outstanding) → ((run : Run) → found ≡ Some run → run.message.from ≡ p → run.message.session ≡ session) → find (is_run j) W.running ≡ found → calls_outstanding p session k (after_finish j W) + replied (gifts_of_finish outcome found) ≤ calls_outstanding p session k W
   unfolding after_finish gifts_of_finish
-  finish_fair j outcome None W is = let less = count_filter (runs_call p k) (λ (run : Run). not (is_run j run)) W.running in omega (arith, less)
-  finish_fair j outcome (Some run) W is =
-      let less = count_dropped (runs_call p k) (is_run j) W.running run is in
+  finish_fair j outcome None W present is = let less = count_filter (runs_call p session k) (λ (run : Run). not (is_run j run)) W.running in omega (arith, less)
+  finish_fair j outcome (Some run) W present is =
+      let less = count_dropped (runs_call p session k) (is_run j) W.running run is in
+      let one = of_session run.message run.message.from run.message.item refl refl (present run refl) in
       let reply = finish_replies run.message.from run.message.item outcome in
-      omega (arith, less, reply)
+      omega (arith, less, one, reply)
 
   -- ---- deeds
 
@@ -188,57 +213,78 @@ module _ (p k : ℕ) where
   silent : (s n : ℕ) (deed : Deed) (D : List Deed) (W : Outstanding) → may_speak deed ≡ false → replied (gifts_of s n deed D W) ≡ 0
   silent s n deed D W none = notes_give (replies_to k) (note_replies k) p s n deed D W none
 
+  -- the message that a deed answers came in the session
+  abbrev pub AnswersPresent : Deed → Outstanding → Type 0
+  AnswersPresent (did.Finish job outcome) W = (run : Run) → find (is_run job) W.running ≡ Some run → run.message.from ≡ p → run.message.session ≡ session
+  AnswersPresent (did.Settle q j) W = (m : Message) → find (is_of q j) W.waiting ≡ Some m → q ≡ p → m.session ≡ session
+  AnswersPresent (_) W = ⊤
+
   -- by a deed what is outstanding and what is replied grow no more than what is acted on
-  deed_fair : (s n : ℕ) (deed : Deed) (D : List Deed) (W : Outstanding) → calls_outstanding p k (work_after s n deed D W) + replied (gifts_of s n deed D W) ≤ calls_outstanding p k W + takes_call deed D
+  pub deed_fair : (s n : ℕ) (deed : Deed) (D : List Deed) (W : Outstanding) → AnswersPresent deed W → calls_outstanding p session k (work_after s n deed D W) + replied (gifts_of s n deed D W) ≤ calls_outstanding p session k W + takes_call deed D
   unfolding work_after after_call after_take after_end after_finish after_close gifts_of
-  deed_fair s n (did.Call target method value call) D W =
+  deed_fair s n (did.Call target method value call) D W present =
       let first = count_first (gives (replies_to k) p) (record { to = target.owner; item = items.Call call target.index method value }) [] in
       let none = no_second (target.owner == p) in
       omega (arith, first, none)
-  deed_fair s n (did.Finish job outcome) D W = let fair = finish_fair job outcome (find (is_run job) W.running) W refl in omega (arith, fair)
-  deed_fair s n (did.Settle q j) D W = let fair = settle_fair s n q j D (find (is_of q j) W.waiting) W refl in omega (arith, fair)
-  deed_fair s n (did.Act q j) D W =
+  deed_fair s n (did.Finish job outcome) D W present = let fair = finish_fair job outcome (find (is_run job) W.running) W present refl in omega (arith, fair)
+  deed_fair s n (did.Settle q j) D W present = let fair = settle_fair s n q j D (find (is_of q j) W.waiting) W present refl in omega (arith, fair)
+  deed_fair s n (did.Act q j) D W present =
       let fair = act_fair s n q j D (item_at q j D) W in
       let own = own_item q j D in
       let none = silent s n (did.Act q j) D W refl in
       omega (arith, fair, own, none)
-  deed_fair s n (did.Claim job) D W = let fair = claim_fair job (find (is_job job) W.ready) W refl in omega (arith, fair)
-  deed_fair s n (did.DropReply job) D W = let less = count_filter (runs_call p k) (λ (run : Run). not (is_run job run)) W.running in omega (arith, less)
-  deed_fair s n (did.TakeReply call status value) D W = let less = count_filter (brings_call p k) (is_not_reply call) W.waiting in omega (arith, less)
-  deed_fair s n (did.Closing q reason cause) D W =
-      let waiting = count_filter (brings_call p k) (is_not_from q) W.waiting in
-      let ready = count_filter (brings_call p k) (is_not_from q) W.ready in
+  deed_fair s n (did.Claim job) D W present = let fair = claim_fair job (find (is_job job) W.ready) W refl in omega (arith, fair)
+  deed_fair s n (did.DropReply job) D W present = let less = count_filter (runs_call p session k) (λ (run : Run). not (is_run job run)) W.running in omega (arith, less)
+  deed_fair s n (did.TakeReply call status value) D W present = let less = count_filter (brings_call p session k) (is_not_reply call) W.waiting in omega (arith, less)
+  deed_fair s n (did.Closing q reason cause) D W present =
+      let waiting = count_filter (brings_call p session k) (is_not_from q) W.waiting in
+      let ready = count_filter (brings_call p session k) (is_not_from q) W.ready in
       omega (arith, waiting, ready)
-  deed_fair s n (did.Clean rep) D W = let none = silent s n (did.Clean rep) D W refl in omega (arith, none)
-  deed_fair s n deed D W = omega arith
+  deed_fair s n (did.Clean rep) D W present = let none = silent s n (did.Clean rep) D W refl in omega (arith, none)
+  deed_fair s n deed D W present = omega arith
 
   -- loans change no count
-  loans_fair : (s n : ℕ) (D : List Deed) (W : Outstanding) → calls_outstanding p k (with_loans s n D W) ≡ calls_outstanding p k W
+  pub loans_fair : (s n : ℕ) (D : List Deed) (W : Outstanding) → calls_outstanding p session k (with_loans s n D W) ≡ calls_outstanding p session k W
   unfolding with_loans message_after run_after
   loans_fair s n D W =
-      let waiting = count_mapped (brings_call p k) (λ m. message_after s n D m) (λ m. refl) W.waiting in
-      let ready = count_mapped (brings_call p k) (λ m. message_after s n D m) (λ m. refl) W.ready in
-      let running = count_mapped (runs_call p k) (λ run. run_after s n D run) (λ run. refl) W.running in
+      let waiting = count_mapped (brings_call p session k) (λ m. message_after s n D m) (λ m. refl) W.waiting in
+      let ready = count_mapped (brings_call p session k) (λ m. message_after s n D m) (λ m. refl) W.ready in
+      let running = count_mapped (runs_call p session k) (λ run. run_after s n D run) (λ run. refl) W.running in
       omega (arith, waiting, ready, running)
 
   -- what was acted on, by one deed more
-  taken_more : (deed : Deed) (D : List Deed) → count_of (makes_call k) (items_among (acted p (deed ∷ D))) ≡ count_of (makes_call k) (items_among (acted p D)) + takes_call deed D
+  pub taken_more : (deed : Deed) (D : List Deed) → count_of (makes_call k) (items_among (acted p (deed ∷ D))) ≡ count_of (makes_call k) (items_among (acted p D)) + takes_call deed D
   taken_more (did.Act q j) D = elim (q == p) as (λ b. count_of (makes_call k) (items_among (cond b (acted p D ++ (j, item_at p j D) ∷ []) (acted p D))) ≡ count_of (makes_call k) (items_among (acted p D)) + cond b (count_of (makes_call k) (cons_option (item_at p j D) [])) 0) [
     | true ↦ ap (count_of (makes_call k)) (filter_map-append (λ (pair : ℕ × Option Item). pair.1) (acted p D) ((j, item_at p j D) ∷ [])) ∙ count_append (makes_call k) (items_among (acted p D)) (cons_option (item_at p j D) [])
     | false ↦ omega arith
   ]
   taken_more deed D = omega arith
 
-  -- the messages of Call k from p outstanding and the Replies to it are no more than the times that it was acted on
-  pub calls_fair : (s n : ℕ) (D : List Deed) → calls_outstanding p k (work s n D) + count_of (replies_to k) (items_sent_to p (sent (history_of s n D))) ≤ count_of (makes_call k) (items_among (acted p D))
-  unfolding gifts
-  calls_fair s n [] = omega arith
-  calls_fair s n (deed ∷ D) =
-      let W : Outstanding = work s n D in
-      let before = calls_fair s n D in
-      let loans = loans_fair s n (deed ∷ D) (work_after s n deed D W) in
-      let fair = deed_fair s n deed D W in
-      let acted_on = taken_more deed D in
-      let given = count_given (replies_to k) p (λ (gift : Gift). is_peer s n gift.to) (gifts_of s n deed D W) in
-      let whole = ap (count_of (replies_to k)) (gifts_sent_to p (gifts s n deed D W) (sent (history_of s n D))) ∙ count_append (replies_to k) (items_sent_to p (sent (history_of s n D))) (items_to p (gifts s n deed D W)) in
-      omega (arith, before, loans, fair, acted_on, given, whole)
+-- ---- on a list of right deeds
+
+-- a right deed answers a message of the present session
+answers_present : (p k s n : ℕ) (limits : Limits) (deed : Deed) (D : List Deed) → AreRightDeeds s n limits (deed ∷ D) → AnswersPresent p (number p D) k deed (work s n D)
+unfolding right_after
+answers_present p k s n limits (did.Finish job outcome) D right = λ run found from.
+    let told = finish_tells s job outcome (history_of s n D) (was_answered s n limits (did.Finish job outcome) D right.0) in
+    let same : told.0 ≡ run = some_same told.0 run (sym told.1 ∙ found) in
+    sym (ap (λ (one : Run). one.message.session) same) ∙ told.5 ∙ ap (λ (one : Run). number one.message.from D) same ∙ ap (λ (q : ℕ). number q D) from
+answers_present p k s n limits (did.Settle q j) D right = λ m found same.
+    let W : Outstanding = work s n D in
+    let from : m.from ≡ q = eqb-true m.from q (and_parts (m.from == q) (m.number == j) (found_passes (is_of q j) W.waiting m found)).0 in
+    all_found (λ (one : Message). one.session ≡ number one.from D) (is_of q j) W.waiting m found (waiting_present s n D) ∙ ap (λ (r : ℕ). number r D) (from ∙ same)
+answers_present p k s n limits deed D right = tt
+
+-- the messages of Call k from p outstanding that came in the present session and the Replies to it in that are no more than the times that it was acted on there
+pub calls_fair : (p k s n : ℕ) (limits : Limits) (D : List Deed) → AreRightDeeds s n limits D → calls_outstanding p (number p D) k (work s n D) + count_of (replies_to k) (items_sent_in p (number p D) (sent (history_of s n D))) ≤ count_of (makes_call k) (items_among (acted p D))
+unfolding gifts
+calls_fair p k s n limits [] right = omega arith
+calls_fair p k s n limits (deed ∷ D) right =
+    let W : Outstanding = work s n D in
+    let before = calls_fair p k s n limits D right.1 in
+    let loans = loans_fair p (number p D) k s n (deed ∷ D) (work_after s n deed D W) in
+    let fair = deed_fair p (number p D) k s n deed D W (answers_present p k s n limits deed D right) in
+    let acted_on = taken_more p (number p D) k deed D in
+    let given = count_given (replies_to k) p (λ (gift : Gift). is_peer s n gift.to) (gifts_of s n deed D W) in
+    let whole = ap (count_of (replies_to k)) (sent_now_more s n p deed D) ∙ count_append (replies_to k) (items_sent_in p (number p D) (sent (history_of s n D))) (items_to p (gifts s n deed D W)) in
+    omega (arith, before, loans, fair, acted_on, given, whole)

@@ -29,17 +29,17 @@ use Rattle.nob_model_work.specs.Gifts.{once, dirty_for, dirties_for, answer_to, 
 use Rattle.nob_model_history.specs.declared.history.History.{History}
 use Rattle.nob_model_history.specs.declared.transit.SentItem.{SentItem}
 use Rattle.nob_model_history.specs.Histories.{history_of}
-use Rattle.nob_model_history.specs.Transit.{sent, asks_for, once_last, by_last_dirty, is_idle}
-use Rattle.nob_model_history.proofs.Sending.{new_items, next_item, sent_more}
+use Rattle.nob_model_history.specs.Transit.{next_sent, sent, asks_for, once_last, by_last_dirty, is_idle}
+use Rattle.nob_model_history.proofs.Sending.{new_items, sent_more}
 use Rattle.nob_model.specs.Right.{right_after, calls_made, last_number}
 use Rattle.nob_model.specs.Lists.{IsRightDeed}
 use Rattle.nob_model.proofs.Doing.{was_answered}
 use Rattle.nob_model.proofs.Accepted.{found_passes, call_tells, finish_tells, clean_tells}
 use Rattle.nob_model.proofs.Carrying.{AllOutstanding, all_filter, all_found}
 use Rattle.nob_model_invariant.specs.Typed.{HandsTyped}
-use Rattle.nob_model_invariant.proofs.Lists.{all_append}
-use Rattle.nob_model_invariant.proofs.Typing.{HasIndex, counted_index, sendable_fits}
-use Rattle.nob_model_invariant.proofs.Hands.{New, outstanding_more}
+use Rattle.nob_model_holdings.proofs.Lists.{all_append}
+use Rattle.nob_model_holdings.proofs.Typing.{HasIndex, counted_index, sendable_fits}
+use Rattle.nob_model_holdings.proofs.Hands.{New, outstanding_more}
 
 -- ---- what fits
 
@@ -193,9 +193,9 @@ gifts_fit s n limits (did.Clean rep) D right typed whole all =
     clean_fits rep (turns s n rep D).asks (all_found HasIndex (is_idle s n h) (by_last_dirty h) rep told.0 (last_index _ (asked_index (sent h) all.was_sent)))
 gifts_fit s n limits deed D right typed whole all = tt
 
-new_fit : (more : List Gift) (before : List SentItem) → AllByRecursion GiftFits more → AllByRecursion SentFits (new_items before more)
-new_fit [] before all = tt
-new_fit (gift ∷ more) before all = (all.0, new_fit more (before ++ next_item before gift ∷ []) all.1)
+new_fit : (D : List Deed) (more : List Gift) (before : List SentItem) → AllByRecursion GiftFits more → AllByRecursion SentFits (new_items D before more)
+new_fit D [] before all = tt
+new_fit D (gift ∷ more) before all = (all.0, new_fit D more (before ++ next_sent D before gift ∷ []) all.1)
 
 new_whole : (s n : ℕ) (deed : Deed) (D : List Deed) → ActsOnWhole deed D → New s n IsWhole whole_lost deed D
 new_whole s n (did.Act p k) D whole = λ item is. whole item is
@@ -208,7 +208,7 @@ fits_more s n limits deed D right typed whole all = record {
   outstanding = outstanding_more s n IsWhole whole_lost deed D (whole_kept s n (deed ∷ D)) (new_whole s n deed D whole) all.outstanding;
   was_sent = subst (λ more. AllByRecursion SentFits more) (sym (sent_more s n deed D))
       (all_append SentFits (sent (history_of s n D)) _ all.was_sent
-      (new_fit (gifts s n deed D (work s n D)) (sent (history_of s n D)) (all_filter GiftFits (λ gift. is_peer s n gift.to) (gifts_of s n deed D (work s n D)) (gifts_fit s n limits deed D right typed whole all))));
+      (new_fit D (gifts s n deed D (work s n D)) (sent (history_of s n D)) (all_filter GiftFits (λ gift. is_peer s n gift.to) (gifts_of s n deed D (work s n D)) (gifts_fit s n limits deed D right typed whole all))));
 }
 
 -- before anything was done nothing is outstanding and nothing was sent

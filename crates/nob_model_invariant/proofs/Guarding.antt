@@ -4,7 +4,7 @@ use Rattle.std.proofs.Common.{◌≡◌, ℕ, zero, suc, ◌+◌, ◌≤◌, ◌
 use Rattle.std.specs.Prelude.{◌==◌, ◌≢◌}
 use Rattle.std.specs.List.{AllByRecursion, list_any, slice_get, cons_option}
 use Rattle.std.proofs.lemmas.Bool.{eqb-true, and_parts}
-use Rattle.std.proofs.lemmas.List.{length-append, length_push, append-nil, drop-append-le}
+use Rattle.std.proofs.lemmas.List.{length-append, length_push, drop-append-le}
 use Rattle.std.proofs.lemmas.List.Elements.{filter_map-append}
 use Rattle.nob_ids.specs.Names.{is_same, is_counted}
 use Rattle.nob_ids.specs.declared.limits.Limits.{Limits}
@@ -33,7 +33,7 @@ use Rattle.nob_model_history.specs.Ends.{items_to}
 use Rattle.nob_model_history.specs.Holds.{is_held}
 use Rattle.nob_model_history.specs.Listing.{is_entered, is_entered_after}
 use Rattle.nob_model_history.specs.Transit.{sent}
-use Rattle.nob_model_history.proofs.Numbered.{items_sent_to, gifts_sent_to}
+use Rattle.nob_model_history.proofs.Numbered.{items_sent_in}
 use Rattle.nob_model_history.proofs.Turning.{same_ref}
 use Rattle.nob_model_acting.specs.Sending.{refs_refused, is_faulty, value_refused}
 use Rattle.nob_model.specs.Right.{right_after, own_ref}
@@ -42,18 +42,20 @@ use Rattle.nob_model.proofs.Doing.{was_answered}
 use Rattle.nob_model.proofs.Accepted.{call_tells, finish_tells}
 use Rattle.nob_model.proofs.Carrying.{all_filter}
 use Rattle.nob_model.proofs.Waiting.{all_weaker}
-use Rattle.nob_model_journal.specs.Journals.{deeds_at, history_at, sent_to, acted_from}
+use Rattle.nob_model_journal.specs.Journals.{deeds_at, number_at, are_in_one, sent_in, sent_to, acted_from}
 use Rattle.nob_model_journal.specs.Runs.{WorldRun}
-use Rattle.nob_model_journal.specs.Fronts.{with_numbers, ActsInOrder}
+use Rattle.nob_model_journal.specs.Fronts.{with_numbers}
 use Rattle.nob_model_invariant.specs.Typed.{AreOfTypes}
 use Rattle.nob_model_invariant.specs.Asking.{ask_in, asks_among, items_among, dirties_in, last_or, turns_by, asked, heard, was_asked, gave}
-use Rattle.nob_model_invariant.proofs.Lists.{all_map, all_both, all_pass, place_in_whole, some_same}
-use Rattle.nob_model_invariant.proofs.Typing.{next_none, refs_held}
+use Rattle.nob_model_holdings.proofs.Lists.{all_map, all_both, all_pass, place_in_whole, some_same}
+use Rattle.nob_model_holdings.proofs.Typing.{next_none, refs_held}
 use Rattle.nob_model_invariant.proofs.Entries.{grows, right_deeds_at}
-use Rattle.nob_model_invariant.proofs.Order.{IsNextOf, acts_on_next, all_fit, in_order}
-use Rattle.nob_model_invariant.proofs.Granted.{is_owned, held_owned}
-use Rattle.nob_model_invariant.proofs.Holdings.{holds_owned}
-use Rattle.nob_model_invariant.proofs.Listings.{items_split, items_begin, answers_begin, dirties_append, granted_entered}
+use Rattle.nob_model_invariant.proofs.BySession.{sent_in_more, sent_in_same, sent_grows, sent_one}
+use Rattle.nob_model_invariant.proofs.OneSession.{number_kept}
+use Rattle.nob_model_invariant.proofs.Order.{ActsNow, IsNextOf, acts_on_next, all_fit, in_order_now}
+use Rattle.nob_model_holdings.proofs.Granted.{is_owned, held_owned}
+use Rattle.nob_model_holdings.proofs.Holdings.{holds_owned}
+use Rattle.nob_model_invariant.proofs.Listings.{items_split, answers_now, dirties_append, granted_entered}
 use Rattle.nob_model_invariant.proofs.SafetyPoints.{clients, owners}
 use Rattle.nob_model_invariant.specs.Underway.{under_way, calls_object, needs_object, unless_asked, AreGuarded}
 use Rattle.nob_model_invariant.specs.ArrivalLaws.{GuardedLaw}
@@ -241,13 +243,13 @@ length_numbered k [] = refl
 length_numbered k (item ∷ whole) = ap suc (length_numbered (k + 1) whole)
 
 -- what is granted isn't asked for nor given up by what is under way
-granted_unasked : (n : ℕ) (J : List Entry) (c o x : ℕ) → ActsInOrder n c o J → ActsInOrder n o c J → turns c n (own_ref o x) (deeds_at c J) ≡ turns_by (asked n c (own_ref o x) J) (heard c (own_ref o x) J) → length (gave n o c x J) ≡ dirties_in (was_asked o c x J) → is_granted (turns c n (own_ref o x) (deeds_at c J)) ≡ true → asks_among x (under_way n c o J) ≡ []
-granted_unasked n J c o x there back are each granted =
+granted_unasked : (n : ℕ) (J : List Entry) (c o x : ℕ) → are_in_one c o J ≡ true → ActsNow n c o J → ActsNow n o c J → turns c n (own_ref o x) (deeds_at c J) ≡ turns_by (asked n c (own_ref o x) J) (heard c (own_ref o x) J) → length (gave n o c x J) ≡ dirties_in (was_asked o c x J) → is_granted (turns c n (own_ref o x) (deeds_at c J)) ≡ true → asks_among x (under_way n c o J) ≡ []
+granted_unasked n J c o x one there back are each granted =
     let rep : WireRep = own_ref o x in
     let parts = granted_parts (ap is_granted (sym are) ∙ granted) in
     let behind : List Bool = asks_among x (items_among there.0) in
-    let whole : was_asked o c x J ++ behind ≡ asked n c rep J = sym (filter_map-append (ask_in x) (items_among (acted_from c o J)) (items_among there.0)) ∙ ap (asks_among x) (items_split n c o J there) in
-    let answers = answers_begin x (items_among (acted_from o c J)) (sent_to n o c J) (items_begin n o c J back) in
+    let whole : was_asked o c x J ++ behind ≡ asked n c rep J = sym (filter_map-append (ask_in x) (items_among (acted_from c o J)) (items_among there.0)) ∙ ap (asks_among x) (items_split n c o J there ∙ sent_one n c o J one) in
+    let answers = answers_now n J c o x one back in
     let sent_all = ap dirties_in (sym whole) ∙ dirties_append (was_asked o c x J) behind in
     let told_all = ap length (sym answers.1) ∙ length-append (heard c rep J) answers.0 in
     let heard_all = parts.1 in
@@ -266,30 +268,36 @@ granted_unasked n J c o x there back are each granted =
 module _ (n c o x : ℕ) (limits : ℕ → Limits) (apart : c ≢ o) (entry : Entry) (J : List Entry) (run : WorldRun n limits (entry ∷ J)) (typed : AreOfTypes (entry ∷ J)) where
   acted_few : length (acted_from c o J) ≤ length (sent_to n c o J)
   acted_few =
-      let begins = in_order n limits J run.1 typed.1 c o in
+      let begins = in_order_now n limits J run.1 typed.1 c o in
       let size = sym (length-append (acted_from c o J) begins.0) ∙ ap length begins.1 ∙ length_numbered 1 (sent_to n c o J) in
       omega (arith, size)
 
-  granted_guards : (b : Bool) → (is_entered o x c (deeds_at o J) ≡ true → asks_among x (under_way n c o J) ≡ [] → b ≡ true) → is_granted (turns c n (own_ref o x) (deeds_at c J)) ≡ true → b ≡ true
-  granted_guards b known granted =
-      let there = in_order n limits J run.1 typed.1 c o in
-      let back = in_order n limits J run.1 typed.1 o c in
+  granted_guards : are_in_one c o J ≡ true → (b : Bool) → (is_entered o x c (deeds_at o J) ≡ true → asks_among x (under_way n c o J) ≡ [] → b ≡ true) → is_granted (turns c n (own_ref o x) (deeds_at c J)) ≡ true → b ≡ true
+  granted_guards one b known granted =
+      let there = in_order_now n limits J run.1 typed.1 c o in
+      let back = in_order_now n limits J run.1 typed.1 o c in
       let are = (clients n limits J run.1).turns_are c (own_ref o x) in
       let each = ((owners n limits J run.1).answered o c x).each in
-      known ((owners n limits J run.1).entered o c x ∙ granted_entered n J c (own_ref o x) there back are each granted) (granted_unasked n J c o x there back are each granted)
+      known ((owners n limits J run.1).entered o c x ∙ granted_entered n J c (own_ref o x) one there back are each granted) (granted_unasked n J c o x one there back are each granted)
 
-  -- what is under way once more is sent
+  -- what is under way, in the session in which the owner is, once more is sent
   abbrev Longer : List Deed → Type 0
-  Longer D = AreGuarded o x (is_entered o x c (deeds_at o J)) (drop (length (acted_from c o J)) (items_sent_to o (sent (history_of c n D))))
+  Longer D = AreGuarded o x (is_entered o x c (deeds_at o J)) (drop (length (acted_from c o J)) (items_sent_in o (number_at o c J) (sent (history_of c n D))))
 
   deed_sends : (deed : Deed) → AreRightDeeds c n (limits c) (deed ∷ deeds_at c J) → Longer (deeds_at c J) → Longer (deed ∷ deeds_at c J)
-  deed_sends deed right before =
-      let D : List Deed = deeds_at c J in
-      let more : List Item = items_to o (gifts c n deed D (work c n D)) in
-      let entered : Bool = is_entered o x c (deeds_at o J) in
-      subst (λ all. AreGuarded o x entered (drop (length (acted_from c o J)) all)) (sym (gifts_sent_to o (gifts c n deed D (work c n D)) (sent (history_of c n D))))
-      (subst (AreGuarded o x entered) (sym (drop-append-le (length (acted_from c o J)) (sent_to n c o J) more acted_few))
-      (guarded_append o x entered (under_way n c o J) more before (λ b known. gifts_guarded c n o x (limits c) b deed D apart right (granted_guards b known))))
+  deed_sends deed right before = by (number_at c o J == number_at o c J) refl
+    where
+      -- what a client sends in another session isn't under way to the owner
+      by : (b : Bool) → are_in_one c o J ≡ b → Longer (deed ∷ deeds_at c J)
+      by true one =
+          let D : List Deed = deeds_at c J in
+          let more : List Item = items_to o (gifts c n deed D (work c n D)) in
+          let entered : Bool = is_entered o x c (deeds_at o J) in
+          let whole = sent_in_more c n o (number_at o c J) deed D ∙ ap (λ (b : Bool). sent_to n c o J ++ cond b more []) one in
+          subst (λ all. AreGuarded o x entered (drop (length (acted_from c o J)) all)) (sym whole)
+          (subst (AreGuarded o x entered) (sym (drop-append-le (length (acted_from c o J)) (sent_to n c o J) more acted_few))
+          (guarded_append o x entered (under_way n c o J) more before (λ b known. gifts_guarded c n o x (limits c) b deed D apart right (granted_guards one b known))))
+      by false other = subst (λ all. AreGuarded o x (is_entered o x c (deeds_at o J)) (drop (length (acted_from c o J)) all)) (sym (sent_in_same c n o (number_at o c J) deed (deeds_at c J) other)) before
 
   entry_sends : Longer (deeds_at c J) → Longer (deeds_at c (entry ∷ J))
   entry_sends before =
@@ -353,24 +361,14 @@ module _ (n c o x : ℕ) (limits : ℕ → Limits) (J : List Entry) (run : World
 
 -- ---- a run
 
--- what was sent before stands in front of what is sent
-sent_grows : (n a b : ℕ) (entry : Entry) (J : List Entry) → (more : List Item) × (sent_to n a b J ++ more ≡ sent_to n a b (entry ∷ J))
-sent_grows n a b entry J =
-    elim (grows a entry J) [
-      | inl same ↦ ([], append-nil (sent_to n a b J) ∙ ap (λ D. items_sent_to b (sent (history_of a n D))) (sym same))
-      | inr one ↦ (
-        items_to b (gifts a n one.0 (deeds_at a J) (work a n (deeds_at a J))),
-        sym (gifts_sent_to b (gifts a n one.0 (deeds_at a J) (work a n (deeds_at a J))) (sent (history_at a n J))) ∙ ap (λ D. items_sent_to b (sent (history_of a n D))) (sym one.3),
-      )
-    ]
-
 -- what is under way is guarded
 pub all_guarded : (n c o x : ℕ) (limits : ℕ → Limits) → c ≢ o → (J : List Entry) → WorldRun n limits J → AreOfTypes J → AreGuarded o x (is_entered o x c (deeds_at o J)) (under_way n c o J)
 all_guarded n c o x limits apart [] run typed = tt
 all_guarded n c o x limits apart (entry ∷ J) run typed =
-    let longer = sent_grows n c o entry J in
-    entry_left n c o x limits J run.1 typed.1 longer.0 (sent_to n c o (entry ∷ J)) longer.1 entry run
-    (entry_sends n c o x limits apart entry J run typed (all_guarded n c o x limits apart J run.1 typed.1))
+    let longer = sent_grows n c o (number_at o c J) entry J in
+    subst (λ (k : ℕ). AreGuarded o x (is_entered o x c (deeds_at o (entry ∷ J))) (drop (length (acted_from c o (entry ∷ J))) (sent_in n c o k (entry ∷ J)))) (sym (number_kept o c entry J))
+    (entry_left n c o x limits J run.1 typed.1 longer.0 (sent_in n c o (number_at o c J) (entry ∷ J)) (sym longer.1) entry run
+    (entry_sends n c o x limits apart entry J run typed (all_guarded n c o x limits apart J run.1 typed.1)))
 
 pub guarded_law : GuardedLaw
 guarded_law n limits J run typed = record { guarded = λ c o x apart. all_guarded n c o x limits apart J run typed }

@@ -1,5 +1,5 @@
 -- The four promises read the same where more spaces are counted, and so does the verdict.
-use Rattle.std.proofs.Common.{◌≡◌, ◌≤◌, ℕ, ◌&&◌, true, false, List, [], ◌∷◌, map, filter, Option, Some, None, if◌then◌else◌, refl, sym, ap, subst, ◌∙◌}
+use Rattle.std.proofs.Common.{◌≡◌, ◌≤◌, ℕ, ◌&&◌, not, true, false, List, [], ◌∷◌, map, filter, find, Option, Some, None, if◌then◌else◌, refl, sym, ap, subst, ◌∙◌}
 use Rattle.std.specs.Prelude.{◌==◌}
 use Rattle.std.specs.List.{AllByRecursion, list_any}
 use Rattle.nob_ids.specs.declared.limits.Limits.{Limits}
@@ -11,8 +11,8 @@ use Rattle.nob_model_types.specs.declared.entry.Entry.{Entry}
 use Rattle.nob_model_types.specs.declared.deed.Deed.{Deed}
 use Rattle.nob_model_types.specs.declared.deed.Deed.TheVariants as did
 use Rattle.nob_model_types.specs.declared.turns.Turns.{Turns}
-use Rattle.nob_model_types.specs.Sessions.{closed, item_at}
-use Rattle.nob_model_types.specs.Turns.{turns, is_refused, carries}
+use Rattle.nob_model_types.specs.Sessions.{closed, number, item_at}
+use Rattle.nob_model_types.specs.Turns.{turns, is_own, is_refused, carries}
 use Rattle.nob_model_work.specs.declared.gifts.Gift.{Gift}
 use Rattle.nob_model_work.specs.declared.work.Outstanding.{Outstanding}
 use Rattle.nob_model_work.specs.Work.{work}
@@ -21,16 +21,18 @@ use Rattle.nob_model_history.specs.declared.history.History.{History}
 use Rattle.nob_model_history.specs.declared.transit.SentItem.{SentItem}
 use Rattle.nob_model_history.specs.Histories.{history_of}
 use Rattle.nob_model_history.specs.Holds.{is_held}
-use Rattle.nob_model_history.specs.Transit.{sent}
+use Rattle.nob_model_history.specs.Transit.{is_sent_to, sent}
 use Rattle.nob_model.specs.Right.{own_ref}
+use Rattle.nob_model.proofs.Waiting.{all_weaker}
 use Rattle.nob_model_journal.specs.declared.verdict.Promise.TheVariants as promises
 use Rattle.nob_model_journal.specs.declared.verdict.Verdict.{Verdict}
 use Rattle.nob_model_journal.specs.declared.verdict.Verdict.TheVariants.{Yes, No}
-use Rattle.nob_model_journal.specs.Journals.{Each, deeds_at, acted_from}
+use Rattle.nob_model_journal.specs.Journals.{Each, deeds_at, number_at, both_open, acted_in}
 use Rattle.nob_model_journal.specs.Runs.{WorldRun}
 use Rattle.nob_model_journal.specs.Fronts.{with_numbers, SendsWhileOpen, Fronts}
 use Rattle.nob_model_journal.specs.Safety.{reaches_owner, is_open_copy, NoneNeeds, SafeWithdraw}
-use Rattle.nob_model_journal.specs.Losses.{is_carried, sources, is_loss, is_excuse, LosesExcused, NoFalseLoss}
+use Rattle.nob_model_journal.specs.Losses.{is_carried, sources, is_loss, is_source, was_with_owner, is_excuse, LosesExcused, NoFalseLoss}
+use Rattle.nob_model_journal.specs.declared.losses.Source.{Source}
 use Rattle.nob_model_journal.specs.Verdicts.{IsVerdict, most_spaces}
 use Rattle.nob_model_invariant.specs.Typed.{AreOfTypes}
 use Rattle.nob_model_invariant.specs.FirstSpaces.{AmongFirst}
@@ -95,7 +97,7 @@ sends_alike s n m (deed ∷ D) same sends = (
 
 fronts_alike : (n m : ℕ) (J : List Entry) → AllAlike n m J → Fronts n J → Fronts m J
 fronts_alike n m J alike fronts = record {
-  order = λ a b. subst (λ (h : History). IsBeginning (acted_from a b J) (with_numbers 1 (map (λ (one : SentItem). one.item) (filter (λ (one : SentItem). one.to == b) (sent h))))) (alike a).histories (fronts.order a b);
+  order = λ a b k. subst (λ (h : History). IsBeginning (acted_in a b k J) (with_numbers 1 (map (λ (one : SentItem). one.item) (filter (is_sent_to b k) (sent h))))) (alike a).histories (fronts.order a b k);
   acts = fronts.acts;
   sends = λ s. sends_alike s n m (deeds_at s J) (ap (λ (h : History). h.all_gifts) (alike s).histories) (fronts.sends s);
 }
@@ -124,14 +126,21 @@ loss_alike s n m p rep (Some (items.Clean index)) D same = refl
 
 -- the copies that came, that of an item that is acted on too
 source_alike : (s n m p k : ℕ) (rep : WireRep) (D : List Deed) → sources s n rep D ≡ sources s m rep D → sources s n rep (did.Act p k ∷ D) ≡ sources s m rep (did.Act p k ∷ D)
-source_alike s n m p k rep D same = ap (λ (rest : List ℕ). if is_carried rep (item_at p k D) then p ∷ rest else rest) same
+source_alike s n m p k rep D same = ap (λ (rest : List Source). if is_carried rep (item_at p k D) then record { from = p; session = number p D; number = k } ∷ rest else rest) same
+
+-- what a space sent that came to s in a copy
+excuse_alike : (s n m : ℕ) (rep : WireRep) (J : List Entry) → AllAlike n m J → (copy : Source) → is_excuse n s rep J copy ≡ is_excuse m s rep J copy
+excuse_alike s n m rep J alike copy =
+    ap (λ (h : History). not (is_own copy.from rep) && not ((copy.session == number_at copy.from s J && both_open copy.from s J) && (was_with_owner copy.from rep J (find (is_source s copy) (sent h)) && both_open copy.from rep.owner J)))
+    (alike copy.from).histories
 
 excused_alike : (n m : ℕ) (entry : Entry) (J : List Entry) → AllAlike n m J → LosesExcused n entry J → LosesExcused m entry J
 excused_alike n m entry J alike excused p k rep is lost =
     let s : ℕ = entry.space in
     let D : List Deed = deeds_at s J in
-    subst (AllByRecursion (λ a. is_excuse s rep J a ≡ true)) (source_alike s n m p k rep D ((alike s).came_from rep))
-    (excused p k rep is (loss_alike s n m p rep (item_at p k D) D ((alike s).turned rep) ∙ lost))
+    all_weaker (λ copy. is_excuse n s rep J copy ≡ true) (λ copy. is_excuse m s rep J copy ≡ true) (λ copy own. sym (excuse_alike s n m rep J alike copy) ∙ own) (sources s m rep (did.Act p k ∷ D))
+    (subst (AllByRecursion (λ copy. is_excuse n s rep J copy ≡ true)) (source_alike s n m p k rep D ((alike s).came_from rep))
+    (excused p k rep is (loss_alike s n m p rep (item_at p k D) D ((alike s).turned rep) ∙ lost)))
 
 losses_alike : (n m : ℕ) (J : List Entry) → EachAlike n m J → NoFalseLoss n J → NoFalseLoss m J
 losses_alike n m [] alike none = tt

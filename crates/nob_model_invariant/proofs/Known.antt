@@ -35,9 +35,9 @@ use Rattle.nob_model.proofs.Lending.{NeverLost, all_lent, lost_stays}
 use Rattle.nob_model.proofs.Made.{all_fixed, work_fixed}
 use Rattle.nob_model.proofs.Premises.{took_turns}
 use Rattle.nob_model.proofs.Waiting.{all_weaker}
-use Rattle.nob_model_invariant.proofs.Granted.{gives_up, held_kept, all_stand, hand_apart, copies_apart}
-use Rattle.nob_model_invariant.proofs.Holdings.{lent_held}
-use Rattle.nob_model_invariant.proofs.Lists.{all_split}
+use Rattle.nob_model_holdings.proofs.Granted.{gives_up, held_kept, all_stand, hand_apart, copies_apart}
+use Rattle.nob_model_holdings.proofs.Holdings.{lent_held}
+use Rattle.nob_model_holdings.proofs.Lists.{all_split}
 use Rattle.nob_model_invariant.proofs.Settling.{waits_more}
 use Rattle.nob_model_invariant.specs.LossInvariant.{is_known}
 use Rattle.nob_model_invariant.proofs.Standing.{granted_stands, refused_stands, answered_pending, was_idle}

@@ -29,8 +29,9 @@ use Rattle.nob_model_history.specs.declared.history.History.{History}
 use Rattle.nob_model_history.specs.declared.transit.SentItem.{SentItem}
 use Rattle.nob_model_history.specs.Holds.{times, is_held}
 use Rattle.nob_model_history.specs.Listing.{is_entered, is_listed, is_any_listed}
-use Rattle.nob_model_history.specs.Transit.{is_some_of, is_settle_of, is_settled, is_pinned, pins, sent, is_idle, by_last_dirty}
+use Rattle.nob_model_history.specs.Transit.{is_some_of, is_of_present, is_settle_of, is_settled, is_pinned, pins, sent, is_idle, by_last_dirty}
 use Rattle.nob_model_history.proofs.Listed.{any_listed}
+use Rattle.nob_model_history.proofs.Pinning.{pinned_present}
 use Rattle.nob_model_history.proofs.Turning.{same_ref, pending_waits}
 use Rattle.nob_model_acting.specs.Candidates.{is_all_resolved, to_settle, to_clean}
 use Rattle.nob_model_acting.specs.Sending.{has_numbers}
@@ -38,13 +39,14 @@ use Rattle.nob_model.specs.Right.{own_ref, settle_count, settle_of, right_settle
 use Rattle.nob_model.specs.Lists.{AreRightDeeds}
 use Rattle.nob_model.proofs.Orderly.{exported}
 use Rattle.nob_model_journal.specs.Fronts.{with_numbers}
-use Rattle.nob_model_journal.specs.Journals.{deeds_at, history_at, closed_at, both_open, sent_to, acted_from}
+use Rattle.nob_model_journal.specs.Journals.{deeds_at, history_at, closed_at, number_at, are_in_one, both_open, sent_in, sent_now, sent_to, acted_from}
 use Rattle.nob_model_journal.specs.Runs.{WorldRun}
 use Rattle.nob_model_journal.specs.Safety.{can_use}
 use Rattle.nob_model_invariant.specs.Asking.{answers_among, asks_among, items_among, dirties_in, last_or, last_word, turns_by, asked, heard, was_asked, gave}
 use Rattle.nob_model_invariant.specs.Settles.{settle_in, settles_among, is_in}
 use Rattle.nob_model_invariant.proofs.Entries.{grows, right_deeds_at}
-use Rattle.nob_model_invariant.proofs.Lists.{all_at, all_both, numbered_at}
+use Rattle.nob_model_holdings.proofs.Lists.{all_at, all_both}
+use Rattle.nob_model_invariant.proofs.Numbered.{numbered_at}
 use Rattle.nob_model_invariant.proofs.SafetyPoints.{clients, owners}
 use Rattle.nob_model_invariant.specs.Copies.{carries_any, is_waiting}
 use Rattle.nob_model_invariant.specs.LossInvariant.{is_known}
@@ -91,12 +93,23 @@ items_numbered : (k : ℕ) (more : List Item) → items_among (with_numbers k mo
 items_numbered k [] = refl
 items_numbered k (item ∷ more) = ap (λ (rest : List Item). item ∷ rest) (items_numbered (k + 1) more)
 
+-- on a session that is heard out both are in it
+out_one : (n a b : ℕ) (J : List Entry) → IsHeardOut n a b J → number_at b a J ≡ number_at a b J
+out_one n a b J out = sym (eqb-true (number_at a b J) (number_at b a J) out.in_one)
+
+-- so what each acted on is all that the other sent in its own session
+all_there : (n a b : ℕ) (J : List Entry) → IsHeardOut n a b J → items_among (acted_from a b J) ≡ sent_now n a b J
+all_there n a b J out = ap items_among out.acted_there ∙ items_numbered 1 (sent_to n a b J) ∙ ap (λ (k : ℕ). sent_in n a b k J) (out_one n a b J out)
+
+all_here : (n a b : ℕ) (J : List Entry) → IsHeardOut n a b J → items_among (acted_from b a J) ≡ sent_now n b a J
+all_here n a b J out = ap items_among out.acted_here ∙ items_numbered 1 (sent_to n b a J) ∙ ap (λ (k : ℕ). sent_in n b a k J) (sym (out_one n a b J out))
+
 -- what was asked and answered on a session that is heard out
-asked_out : (n c o x : ℕ) (J : List Entry) → IsHeardOut n c o J → was_asked o c x J ≡ asks_among x (sent_to n c o J)
-asked_out n c o x J out = ap (λ pairs. asks_among x (items_among pairs)) out.acted_there ∙ ap (asks_among x) (items_numbered 1 (sent_to n c o J))
+asked_out : (n c o x : ℕ) (J : List Entry) → IsHeardOut n c o J → was_asked o c x J ≡ asks_among x (sent_now n c o J)
+asked_out n c o x J out = ap (asks_among x) (all_there n c o J out)
 
 heard_all : (n c o x : ℕ) (J : List Entry) → IsHeardOut n c o J → answers_among x (items_among (acted_from o c J)) ≡ gave n o c x J
-heard_all n c o x J out = ap (λ pairs. answers_among x (items_among pairs)) out.acted_here ∙ ap (answers_among x) (items_numbered 1 (sent_to n o c J))
+heard_all n c o x J out = ap (answers_among x) (all_here n c o J out)
 
 -- on a session that is heard out each Dirty is answered
 none_pending : (n c : ℕ) (limits : ℕ → Limits) (rep : WireRep) (J : List Entry) → WorldRun n limits J → IsHeardOut n c rep.owner J → is_pending (turns c n rep (deeds_at c J)) ≡ true → ⊥
@@ -228,15 +241,17 @@ none_pinned n a limits J run quiet low high one placed peer = false_from_ne_true
         let b : ℕ = one.to in
         let k : ℕ = one.number in
         let parts = and_parts _ _ pinned in
-        let some = and_parts (is_some_of (counted_in one.item)) _ parts.0 in
+        let some = and_parts (is_some_of (counted_in one.item) && is_of_present (deeds_at a J) one) _ parts.0 in
+        let carries_it = (and_parts (is_some_of (counted_in one.item)) (is_of_present (deeds_at a J) one) some.0).0 in
         let out : IsHeardOut n a b J = heard_out n a b J (quiet.at_rest a b peer (peer_back a n b peer low high)) (not-true _ parts.1) in
         let range = peer_range a n b peer in
+        let session : one.session ≡ number_at b a J = eqb-true one.session (number_at a b J) (pinned_present (deeds_at a J) one pinned) ∙ sym (out_one n a b J out) in
         let number = placed.1 in
         let place : 1 + (k - 1) ≡ k = omega (arith, number) in
-        let there : slice_get (acted_from a b J) (k - 1) ≡ Some (k, Some one.item) = ap (λ pairs. slice_get pairs (k - 1)) out.acted_there ∙ numbered_at 1 (sent_to n a b J) (k - 1) one.item placed.0 ∙ ap (λ (m : ℕ). Some (m, Some one.item)) place in
-        let done = all_at (λ pair. carries_any pair.1 ≡ true → (is_waiting a pair.0 (work b n (deeds_at b J)).waiting || is_in pair.0 (settles_among (sent_to n b a J))) ≡ true) (acted_from a b J) (k - 1) (k, Some one.item) ((settled n limits J run).each a b out.open_there) there some.0 in
-        let settles : is_in k (settles_among (sent_to n b a J)) ≡ true = waits_or k a (work b n (deeds_at b J)).waiting _ (none_waits n b limits J run quiet range.0 range.1) done in
-        let heard_it : is_in k (settles_among (items_among (acted_from b a J))) ≡ true = ap (λ pairs. is_in k (settles_among (items_among pairs))) out.acted_here ∙ ap (λ more. is_in k (settles_among more)) (items_numbered 1 (sent_to n b a J)) ∙ settles in
+        let there : slice_get (acted_from a b J) (k - 1) ≡ Some (k, Some one.item) = ap (λ pairs. slice_get pairs (k - 1)) out.acted_there ∙ numbered_at 1 (sent_to n a b J) (k - 1) one.item (ap (λ (m : ℕ). slice_get (sent_in n a b m J) (k - 1)) (sym session) ∙ placed.0) ∙ ap (λ (m : ℕ). Some (m, Some one.item)) place in
+        let done = all_at (λ pair. carries_any pair.1 ≡ true → (is_waiting a pair.0 (work b n (deeds_at b J)).waiting || is_in pair.0 (settles_among (sent_now n b a J))) ≡ true) (acted_from a b J) (k - 1) (k, Some one.item) ((settled n limits J run).each a b out.open_there) there carries_it in
+        let settles : is_in k (settles_among (sent_now n b a J)) ≡ true = waits_or k a (work b n (deeds_at b J)).waiting _ (none_waits n b limits J run quiet range.0 range.1) done in
+        let heard_it : is_in k (settles_among (items_among (acted_from b a J))) ≡ true = ap (λ more. is_in k (settles_among more)) (all_here n a b J out) ∙ settles in
         both_ways (is_settled b k (deeds_at a J)) (not-true _ some.1) (in_settled b k (deeds_at a J) heard_it)
 
 none_pass : {X : Type 0} (test : X → Bool) (xs : List X) → AllByRecursion (λ x. test x ≡ false) xs → filter test xs ≡ []
@@ -281,12 +296,11 @@ found_same test rep (other ∷ reps) passes there none = by (found_same test rep
     by others true is there false fails none = both_ways (test other) fails (ap test (sym (same_ref rep other is)) ∙ passes)
     by others false is there false fails none = others there none
 
-held_by : (held own here there : Bool) → (held && (own || (not here && not there))) ≡ false → here ≡ false → there ≡ false → held ≡ false
-held_by true own true there none a b = cc
-held_by true own false true none a b = cc
-held_by true true false false none a b = cc
-held_by true false false false none a b = cc
-held_by false own here there none a b = refl
+held_by : (held own one here there : Bool) → (held && (own || (one && (not here && not there)))) ≡ false → one ≡ true → here ≡ false → there ≡ false → held ≡ false
+held_by true own one here there none is a b =
+    let open_both : (one && (not here && not there)) ≡ true = and_from one (not here && not there) is (and_from (not here) (not there) (not_from_false here a) (not_from_false there b)) in
+    absurd (both_ways (own || (one && (not here && not there))) none (or_right own (one && (not here && not there)) open_both))
+held_by false own one here there none is a b = refl
 
 -- where all is quiet nobody is listed for an object that no space can use
 none_listed : (n : ℕ) (limits : ℕ → Limits) (J : List Entry) → WorldRun n limits J → Quiet n J → (o x : ℕ) → 1 ≤ o → o ≤ n → ((c : ℕ) → 1 ≤ c → c ≤ n → can_use n c (own_ref o x) J ≡ false) → (c : ℕ) → is_listed o x c (deeds_at o J) ≡ true → ⊥
@@ -298,14 +312,14 @@ none_listed n limits J run quiet o x low high unused c listed =
     let range = peer_range o n c peer in
     let back : is_peer c n o ≡ true = peer_back o n c peer low high in
     let there : IsHeardOut n o c J = heard_out n o c J (quiet.at_rest o c peer back) (not-true _ parts.0) in
-    let out : IsHeardOut n c o J = record { open_here = there.open_there; open_there = there.open_here; acted_there = there.acted_here; acted_here = there.acted_there } in
+    let out : IsHeardOut n c o J = record { in_one = eq-eqb (number_at c o J) (number_at o c J) (out_one n o c J there); open_here = there.open_there; open_there = there.open_here; acted_there = there.acted_here; acted_here = there.acted_there } in
     let asks : last_or false (asked n c rep J) ≡ true = ap (last_or false) (sym (asked_out n c o x J out)) ∙ entered.0 in
     let each : length (gave n o c x J) ≡ dirties_in (was_asked o c x J) = ((owners n limits J run).answered o c x).each in
     let same : length (heard c rep J) ≡ dirties_in (asked n c rep J) = ap length (heard_all n c o x J out) ∙ each ∙ ap dirties_in (asked_out n c o x J out) in
     let yes : is_yes (last_word said.Pending (heard c rep J)) ≡ true = ap (λ bs. is_yes (last_word said.Pending bs)) (heard_all n c o x J out) ∙ entered.1 in
     let granted : is_granted (turns c n rep (deeds_at c J)) ≡ true = ap is_granted ((clients n limits J run).turns_are c rep) ∙ and_from _ _ (and_from _ _ asks (eq-eqb (length (heard c rep J)) (dirties_in (asked n c rep J)) same)) yes in
     let usable : is_usable c n rep (deeds_at c J) ≡ true = and_from _ _ granted (not_from_false _ out.open_here) in
-    let unheld : is_held c rep (history_at c n J) ≡ false = held_by (is_held c rep (history_at c n J)) (is_own c rep) (closed_at c o J) (closed_at o c J) (unused c range.0 range.1) out.open_here out.open_there in
+    let unheld : is_held c rep (history_at c n J) ≡ false = held_by (is_held c rep (history_at c n J)) (is_own c rep) (are_in_one c o J) (closed_at c o J) (closed_at o c J) (unused c range.0 range.1) out.in_one out.open_here out.open_there in
     let idle : is_idle c n (history_at c n J) rep ≡ true = and_from _ _ (and_from _ _ usable (not_from_false _ unheld)) (eq-eqb (pins rep (history_at c n J)) 0 (no_pins n c limits rep J run quiet range.0 range.1)) in
     found_same (is_idle c n (history_at c n J)) rep (by_last_dirty (history_at c n J)) idle (stands_last c n rep (deeds_at c J) asks)
     (cleans_none c n (history_at c n J) (quiet.none_cleans c range.0 range.1))

@@ -17,12 +17,13 @@ pub mod Excused
 pub mod Points
 pub mod Placed
 pub mod Leaking
-pub mod Lists
+pub mod Numbered
 pub mod Reading
-pub mod Typing
-pub mod Hands
 pub mod Giving
 pub mod Entries
+pub mod OneSession
+pub mod BySession
+pub mod Coming
 pub mod Frames
 pub mod Pairs
 pub mod Bools
@@ -33,10 +34,7 @@ pub mod Carried
 pub mod Order
 pub mod Open
 pub mod Fronts
-pub mod Holding
 pub mod Naming
-pub mod Granted
-pub mod Holdings
 pub mod SafetyPoints
 pub mod Listings
 pub mod Withdrawing
@@ -47,6 +45,7 @@ pub mod Settling
 pub mod Alive
 pub mod Settled
 pub mod Bundles
+pub mod Sent
 pub mod Unsettled
 pub mod AlikeLists
 pub mod AlikeReading

@@ -1,6 +1,6 @@
 -- A client that is granted a reference is listed for it: the owner acted on its last Dirty and answered it by DirtyOk, and
 -- no Clean follows.
-use Rattle.std.proofs.Common.{◌≡◌, ℕ, ◌+◌, ◌&&◌, not, Bool, true, false, List, [], ◌∷◌, ◌++◌, length, filter, Option, refl, sym, ap, ◌∙◌, arith}
+use Rattle.std.proofs.Common.{◌≡◌, ℕ, ◌+◌, ◌&&◌, not, Bool, true, false, List, [], ◌∷◌, ◌++◌, length, filter, Option, refl, sym, ap, subst, ◌∙◌, arith}
 use Rattle.std.proofs.lemmas.Bool.{and_parts, and_from, eqb-true}
 use Rattle.std.proofs.lemmas.List.{append-nil, length-append, nil_from_length}
 use Rattle.std.proofs.lemmas.List.Elements.{filter-append, filter_map-append}
@@ -11,11 +11,12 @@ use Rattle.nob_model_types.specs.declared.entry.Entry.{Entry}
 use Rattle.nob_model_types.specs.declared.turns.OwnerAnswer.TheVariants as said
 use Rattle.nob_model_types.specs.declared.turns.Turns.{Turns}
 use Rattle.nob_model_types.specs.Turns.{turns, is_granted, is_yes}
-use Rattle.nob_model_journal.specs.Journals.{deeds_at, sent_to, acted_from}
-use Rattle.nob_model_journal.specs.Fronts.{with_numbers, ActsInOrder}
+use Rattle.nob_model_journal.specs.Journals.{deeds_at, are_in_one, sent_now, sent_to, acted_from}
+use Rattle.nob_model_journal.specs.Fronts.{with_numbers}
 use Rattle.nob_model_invariant.specs.Asking.{ask_in, answer_in, asks_among, answers_among, items_among, dirties_in, last_or, last_word, turns_by, asked, heard, was_asked, gave}
 use Rattle.nob_model_invariant.specs.SafetyLaws.{ListingsLaw}
-use Rattle.nob_model_invariant.proofs.Order.{in_order}
+use Rattle.nob_model_invariant.proofs.BySession.{sent_one, sent_back}
+use Rattle.nob_model_invariant.proofs.Order.{ActsNow, in_order_now}
 use Rattle.nob_model_invariant.proofs.SafetyPoints.{clients, owners}
 
 -- ---- what is acted on is a beginning of what is sent
@@ -25,11 +26,11 @@ items_numbered k [] = refl
 items_numbered k (item ∷ items) = ap (λ more. item ∷ more) (items_numbered (k + 1) items)
 
 -- what was acted on and what stands behind it is what was sent
-pub items_split : (n a b : ℕ) (J : List Entry) → (begins : ActsInOrder n a b J) → items_among (acted_from a b J) ++ items_among begins.0 ≡ sent_to n a b J
+pub items_split : (n a b : ℕ) (J : List Entry) → (begins : ActsNow n a b J) → items_among (acted_from a b J) ++ items_among begins.0 ≡ sent_to n a b J
 items_split n a b J begins = sym (filter_map-append (λ (pair : ℕ × Option Item). pair.1) (acted_from a b J) begins.0) ∙ ap items_among begins.1 ∙ items_numbered 1 (sent_to n a b J)
 
 -- the items that were acted on are a beginning of those that were sent
-pub items_begin : (n a b : ℕ) (J : List Entry) → ActsInOrder n a b J → IsBeginning (items_among (acted_from a b J)) (sent_to n a b J)
+pub items_begin : (n a b : ℕ) (J : List Entry) → ActsNow n a b J → IsBeginning (items_among (acted_from a b J)) (sent_to n a b J)
 items_begin n a b J begins =
     (items_among begins.0, items_split n a b J begins)
 
@@ -75,16 +76,24 @@ granted_parts t granted =
 
 -- ---- in a run
 
+-- in a session in which both are, what the owner acted on of what it is asked is a beginning of what the client asked
+pub asks_now : (n : ℕ) (J : List Entry) (c o x : ℕ) → are_in_one c o J ≡ true → ActsNow n c o J → IsBeginning (was_asked o c x J) (asks_among x (sent_now n c o J))
+asks_now n J c o x one there = subst (λ all. IsBeginning (was_asked o c x J) (asks_among x all)) (sent_one n c o J one) (asks_begin x (items_among (acted_from c o J)) (sent_to n c o J) (items_begin n c o J there))
+
+-- and what the client heard is a beginning of what the owner answered
+pub answers_now : (n : ℕ) (J : List Entry) (c o x : ℕ) → are_in_one c o J ≡ true → ActsNow n o c J → IsBeginning (answers_among x (items_among (acted_from o c J))) (gave n o c x J)
+answers_now n J c o x one back = subst (λ all. IsBeginning (answers_among x (items_among (acted_from o c J))) (answers_among x all)) (sent_back n c o J one) (answers_begin x (items_among (acted_from o c J)) (sent_to n o c J) (items_begin n o c J back))
+
 -- whoever is granted a reference is entered for it
-pub granted_entered : (n : ℕ) (J : List Entry) (c : ℕ) (rep : WireRep) → ActsInOrder n c rep.owner J → ActsInOrder n rep.owner c J → turns c n rep (deeds_at c J) ≡ turns_by (asked n c rep J) (heard c rep J) → length (gave n rep.owner c rep.index J) ≡ dirties_in (was_asked rep.owner c rep.index J) → is_granted (turns c n rep (deeds_at c J)) ≡ true → (last_or false (was_asked rep.owner c rep.index J) && is_yes (last_word said.Pending (gave n rep.owner c rep.index J))) ≡ true
-granted_entered n J c rep there back are each granted =
+pub granted_entered : (n : ℕ) (J : List Entry) (c : ℕ) (rep : WireRep) → are_in_one c rep.owner J ≡ true → ActsNow n c rep.owner J → ActsNow n rep.owner c J → turns c n rep (deeds_at c J) ≡ turns_by (asked n c rep J) (heard c rep J) → length (gave n rep.owner c rep.index J) ≡ dirties_in (was_asked rep.owner c rep.index J) → is_granted (turns c n rep (deeds_at c J)) ≡ true → (last_or false (was_asked rep.owner c rep.index J) && is_yes (last_word said.Pending (gave n rep.owner c rep.index J))) ≡ true
+granted_entered n J c rep one there back are each granted =
     let parts = granted_parts (turns_by (asked n c rep J) (heard c rep J)) (ap is_granted (sym are) ∙ granted) in
-    let ends = granted_ends (asked n c rep J) (was_asked rep.owner c rep.index J) (heard c rep J) (gave n rep.owner c rep.index J) (asks_begin rep.index _ _ (items_begin n c rep.owner J there)) (answers_begin rep.index _ _ (items_begin n rep.owner c J back)) parts.1 each parts.0 in
+    let ends = granted_ends (asked n c rep J) (was_asked rep.owner c rep.index J) (heard c rep J) (gave n rep.owner c rep.index J) (asks_now n J c rep.owner rep.index one there) (answers_now n J c rep.owner rep.index one back) parts.1 each parts.0 in
     and_from _ _ ends.0 (ap (λ bs. is_yes (last_word said.Pending bs)) ends.1 ∙ parts.2)
 
 pub listings : ListingsLaw
 listings n limits J run typed = record {
-  granted_listed = λ c rep granted up.
-      let entered = (owners n limits J run).entered rep.owner c rep.index ∙ granted_entered n J c rep (in_order n limits J run typed c rep.owner) (in_order n limits J run typed rep.owner c) ((clients n limits J run).turns_are c rep) ((owners n limits J run).answered rep.owner c rep.index).each granted in
+  granted_listed = λ c rep granted one up.
+      let entered = (owners n limits J run).entered rep.owner c rep.index ∙ granted_entered n J c rep one (in_order_now n limits J run typed c rep.owner) (in_order_now n limits J run typed rep.owner c) ((clients n limits J run).turns_are c rep) ((owners n limits J run).answered rep.owner c rep.index).each granted in
       and_from _ _ (ap not up) entered;
 }

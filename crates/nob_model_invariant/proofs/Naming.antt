@@ -31,8 +31,8 @@ use Rattle.nob_model_history.specs.declared.history.History.{History}
 use Rattle.nob_model_history.specs.declared.transit.SentItem.{SentItem}
 use Rattle.nob_model_history.specs.Histories.{history_of}
 use Rattle.nob_model_history.specs.Holds.{target_lent, gains, is_held}
-use Rattle.nob_model_history.specs.Transit.{sent, asks_for, once_last, by_last_dirty, is_idle}
-use Rattle.nob_model_history.proofs.Sending.{new_items, next_item, sent_more}
+use Rattle.nob_model_history.specs.Transit.{is_sent_to, next_sent, sent, asks_for, once_last, by_last_dirty, is_idle}
+use Rattle.nob_model_history.proofs.Sending.{new_items, sent_more}
 use Rattle.nob_model_acting.specs.Sending.{refs_refused, is_faulty, value_refused}
 use Rattle.nob_model.specs.Right.{right_after}
 use Rattle.nob_model.specs.Lists.{IsRightDeed, AreRightDeeds}
@@ -41,18 +41,18 @@ use Rattle.nob_model.proofs.Accepted.{call_tells, dup_tells, finish_tells, take_
 use Rattle.nob_model.proofs.Premises.{objects_in_turn}
 use Rattle.nob_model.proofs.Carrying.{AllOutstanding, all_filter, all_found}
 use Rattle.nob_model.proofs.Waiting.{all_weaker}
-use Rattle.nob_model_journal.specs.Journals.{deeds_at, history_at, sent_to, acted_from}
+use Rattle.nob_model_journal.specs.Journals.{deeds_at, history_at, number_at, sent_to, acted_from}
 use Rattle.nob_model_journal.specs.Runs.{WorldRun}
 use Rattle.nob_model_invariant.specs.Typed.{AreOfTypes}
 use Rattle.nob_model_invariant.specs.Naming.{object_of, named_in, WasExported, NamesExported}
 use Rattle.nob_model_invariant.specs.SafetyLaws.{NamesLaw}
-use Rattle.nob_model_invariant.proofs.Lists.{all_append, all_at, all_split, all_both, all_pass, all_unfilter, some_same}
-use Rattle.nob_model_invariant.proofs.Typing.{next_none, refs_held}
-use Rattle.nob_model_invariant.proofs.Hands.{New, outstanding_more, hand_weaker}
+use Rattle.nob_model_holdings.proofs.Lists.{all_append, all_at, all_split, all_both, all_pass, all_unfilter, some_same}
+use Rattle.nob_model_holdings.proofs.Typing.{next_none, refs_held}
+use Rattle.nob_model_holdings.proofs.Hands.{New, outstanding_more, hand_weaker}
 use Rattle.nob_model_invariant.proofs.Entries.{grows, right_deeds_at}
 use Rattle.nob_model_invariant.proofs.Owners.{any_push, exported_later}
 use Rattle.nob_model_invariant.proofs.Order.{acts_on_next, all_fit}
-use Rattle.nob_model_invariant.proofs.Holding.{OfCounted, HoldsOf, held_has}
+use Rattle.nob_model_holdings.proofs.Holding.{OfCounted, HoldsOf, held_has}
 
 -- ---- what is known of one space
 
@@ -224,9 +224,9 @@ gifts_known n limits J s (did.Clean rep) right named known =
     clean_known J rep (turns s n rep (deeds_at s J)).asks (all_found (WasExported J) (is_idle s n h) (by_last_dirty h) rep told.0 (last_known J _ (asked_known J (sent h) known.was_sent)))
 gifts_known n limits J s deed right named known = tt
 
-new_known : (J : List Entry) (more : List Gift) (before : List SentItem) → AllByRecursion (GiftExported J) more → AllByRecursion (SentExported J) (new_items before more)
-new_known J [] before all = tt
-new_known J (gift ∷ more) before all = (all.0, new_known J more (before ++ next_item before gift ∷ []) all.1)
+new_known : (J : List Entry) (D : List Deed) (more : List Gift) (before : List SentItem) → AllByRecursion (GiftExported J) more → AllByRecursion (SentExported J) (new_items D before more)
+new_known J D [] before all = tt
+new_known J D (gift ∷ more) before all = (all.0, new_known J D more (before ++ next_sent D before gift ∷ []) all.1)
 
 -- the target of a Call that is named
 lent_named : (J : List Entry) (s : ℕ) (item : Item) → AllByRecursion (WasExported J) (object_of s item) → AllByRecursion (WasExported J) (target_lent s item)
@@ -285,7 +285,7 @@ deed_known n limits J entry s deed right is named known =
           (hand_still s entry J (work s n (deed ∷ D)) (outstanding_more s n (HoldsOf s (WasExported J)) (message_lost J s) deed D (message_kept J s n (deed ∷ D)) (message_new J s n deed D named) known.outstanding));
       was_sent = subst (λ (E : List Deed). AllByRecursion (SentExported (entry ∷ J)) (sent (history_of s n E))) (sym is)
           (subst (AllByRecursion (SentExported (entry ∷ J))) (sym (sent_more s n deed D))
-          (sent_still entry J (sent (history_of s n D) ++ new_items (sent (history_of s n D)) more) (all_append (SentExported J) (sent (history_of s n D)) _ known.was_sent (new_known J more (sent (history_of s n D)) all))));
+          (sent_still entry J (sent (history_of s n D) ++ new_items D (sent (history_of s n D)) more) (all_append (SentExported J) (sent (history_of s n D)) _ known.was_sent (new_known J D more (sent (history_of s n D)) all))));
       gained = subst (λ (E : List Deed). AllByRecursion (OfCounted (WasExported (entry ∷ J))) (gains E)) (sym is) (gains_known n limits J entry s deed right is known);
     }
 
@@ -299,18 +299,19 @@ same_known n J entry s same known = record {
 
 -- ---- a run
 
-to_if : (J : List Entry) (b : ℕ) (own : Bool) (one : SentItem) (kept : List SentItem) → (one.to == b) ≡ own → SentExported J one → AllByRecursion (NamesExported J b) (map (λ (x : SentItem). x.item) kept) → AllByRecursion (NamesExported J b) (map (λ (x : SentItem). x.item) (cond own (one ∷ kept) kept))
-to_if J b true one kept is its rest = (subst (λ (to : ℕ). NamesExported J to one.item) (eqb-true one.to b is) its, rest)
-to_if J b false one kept is its rest = rest
+to_if : (J : List Entry) (b : ℕ) (own now : Bool) (one : SentItem) (kept : List SentItem) → (one.to == b) ≡ own → SentExported J one → AllByRecursion (NamesExported J b) (map (λ (x : SentItem). x.item) kept) → AllByRecursion (NamesExported J b) (map (λ (x : SentItem). x.item) (cond (own && now) (one ∷ kept) kept))
+to_if J b true true one kept is its rest = (subst (λ (to : ℕ). NamesExported J to one.item) (eqb-true one.to b is) its, rest)
+to_if J b true false one kept is its rest = rest
+to_if J b false now one kept is its rest = rest
 
-all_to : (J : List Entry) (b : ℕ) (more : List SentItem) → AllByRecursion (SentExported J) more → AllByRecursion (NamesExported J b) (map (λ (x : SentItem). x.item) (filter (λ (x : SentItem). x.to == b) more))
-all_to J b [] all = tt
-all_to J b (one ∷ more) all = to_if J b (one.to == b) one (filter (λ (x : SentItem). x.to == b) more) refl all.0 (all_to J b more all.1)
+all_to : (J : List Entry) (b k : ℕ) (more : List SentItem) → AllByRecursion (SentExported J) more → AllByRecursion (NamesExported J b) (map (λ (x : SentItem). x.item) (filter (is_sent_to b k) more))
+all_to J b k [] all = tt
+all_to J b k (one ∷ more) all = to_if J b (one.to == b) (one.session == k) one (filter (is_sent_to b k) more) refl all.0 (all_to J b k more all.1)
 
 acts_named : (n : ℕ) (limits : ℕ → Limits) (J : List Entry) (s : ℕ) (deed : Deed) → WorldRun n limits J → AreOfTypes J → ((p : ℕ) → Known n J p) → IsRightDeed s n (limits s) deed (deeds_at s J) → ActsOnNamed J s deed (deeds_at s J)
 acts_named n limits J s (did.Act p k) run typed known right = λ item is.
     let own = acts_on_next p s n k limits J run (all_fit n limits J run typed p) right in
-    subst (NamesExported J s) (some_same own.item item (sym own.found ∙ is)) (all_at (NamesExported J s) (sent_to n p s J) (length (acted_from p s J)) own.item (all_to J s (sent (history_at p n J)) (known p).was_sent) own.was_sent)
+    subst (NamesExported J s) (some_same own.item item (sym own.found ∙ is)) (all_at (NamesExported J s) (sent_to n p s J) (length (acted_from p s J)) own.item (all_to J s (number_at s p J) (sent (history_at p n J)) (known p).was_sent) own.was_sent)
 acts_named n limits J s deed run typed known right = tt
 
 -- all that the spaces of a run have outstanding, sent and gained names what was exported
@@ -326,4 +327,4 @@ all_known n limits (entry ∷ J) run typed s =
     ]
 
 pub names : NamesLaw
-names n limits J run typed = record { exported = λ a b. all_to J b (sent (history_at a n J)) (all_known n limits J run typed a).was_sent }
+names n limits J run typed = record { exported = λ a b k. all_to J b k (sent (history_at a n J)) (all_known n limits J run typed a).was_sent }

@@ -17,7 +17,7 @@ use Rattle.nob_model_types.specs.declared.deed.Deed.{Deed}
 use Rattle.nob_model_types.specs.declared.deed.Deed.TheVariants as did
 use Rattle.nob_model_types.specs.declared.message.Message.{Message}
 use Rattle.nob_model_types.specs.declared.turns.OwnerAnswer.TheVariants as said
-use Rattle.nob_model_types.specs.Sessions.{is_peer, item_at, acted}
+use Rattle.nob_model_types.specs.Sessions.{is_peer, number, item_at, acted}
 use Rattle.nob_model_types.specs.Objects.{exports, is_exported, is_withdrawn, is_live}
 use Rattle.nob_model_types.specs.Turns.{turns, is_yes}
 use Rattle.nob_model_types.specs.Messages.{is_of, is_lost_message}
@@ -29,7 +29,7 @@ use Rattle.nob_model_history.specs.Histories.{history_of}
 use Rattle.nob_model_history.specs.Ends.{items_to}
 use Rattle.nob_model_history.specs.Transit.{sent}
 use Rattle.nob_model_history.specs.Listing.{is_entered, is_entered_after}
-use Rattle.nob_model_history.proofs.Numbered.{items_sent_to, gifts_sent_to}
+use Rattle.nob_model_history.proofs.Numbered.{items_sent_in, gifts_sent_now}
 use Rattle.nob_model_acting.specs.Acting.{fault_of, is_unknown}
 use Rattle.nob_model.specs.Right.{right_after}
 use Rattle.nob_model.specs.Lists.{AreRightDeeds}
@@ -40,9 +40,9 @@ use Rattle.nob_model.proofs.Carrying.{all_filter}
 use Rattle.nob_model_invariant.specs.Asking.{ask_in, answer_in, asks_among, answers_among, items_among, dirties_in, last_or, word_of, last_word, has_no, OkFirst, AnsweredInTurn}
 use Rattle.nob_model_invariant.proofs.Bools.{dirties_push, last_push, word_push}
 
--- what space s answered a client for an index, and what the client asked
+-- what space s answered a client for an index in the session in which it is, and what the client asked
 abbrev pub gave_of : (s n c x : ℕ) → List Deed → List Bool
-gave_of s n c x D = answers_among x (items_sent_to c (sent (history_of s n D)))
+gave_of s n c x D = answers_among x (items_sent_in c (number c D) (sent (history_of s n D)))
 
 abbrev pub asked_of : (c x : ℕ) → List Deed → List Bool
 asked_of c x D = asks_among x (items_among (acted c D))
@@ -148,8 +148,8 @@ answers_to c x (gift ∷ more) = to_client c x (gift.to == c) gift (filter (λ (
 gave_more : (s n c x : ℕ) (deed : Deed) (D : List Deed) → gave_of s n c x (deed ∷ D) ≡ gave_of s n c x D ++ gifts_answer c x (gifts s n deed D (work s n D))
 gave_more s n c x deed D =
     let more : List Gift = gifts s n deed D (work s n D) in
-    ap (answers_among x) (gifts_sent_to c more (sent (history_of s n D)))
-    ∙ filter_map-append (answer_in x) (items_sent_to c (sent (history_of s n D))) (items_to c more)
+    ap (answers_among x) (gifts_sent_now c D more (sent (history_of s n D)))
+    ∙ filter_map-append (answer_in x) (items_sent_in c (number c D) (sent (history_of s n D))) (items_to c more)
     ∙ ap (λ bs. gave_of s n c x D ++ bs) (answers_to c x more)
 
 -- ---- gifts that answer nothing

@@ -3,35 +3,35 @@
 use Rattle.std.proofs.Common.{◌≡◌, ℕ, ◌+◌, ◌-◌, ◌≤◌, ◌||◌, Bool, true, false, cond, List, [], ◌∷◌, ◌++◌, length, map, filter, filter_map, Option, Some, None, refl, sym, ap, subst, ◌∙◌, arith, ◌⊎◌, inl, inr}
 use Rattle.std.specs.Prelude.{◌==◌}
 use Rattle.std.specs.List.{AllByRecursion, list_any, slice_get, cons_option}
-use Rattle.std.proofs.lemmas.Bool.{eqb-true, eq-eqb, and_from, or_cases, or_left, or_right}
+use Rattle.std.proofs.lemmas.Bool.{eqb-true, eq-eqb, and_parts, and_from, or_cases, or_left, or_right}
 use Rattle.std.proofs.lemmas.List.{length-map}
 use Rattle.nob_ids.specs.Names.{is_same}
 use Rattle.nob_ids.specs.declared.wire_rep.WireRep.{WireRep}
 use Rattle.nob_item.specs.declared.item.Item.{Item}
 use Rattle.nob_item.specs.declared.item.Item.TheVariants as items
 use Rattle.nob_model_types.specs.declared.deed.Deed.{Deed}
-use Rattle.nob_model_types.specs.Sessions.{is_peer}
+use Rattle.nob_model_types.specs.Sessions.{is_peer, number}
 use Rattle.nob_model_work.specs.declared.gifts.Gift.{Gift}
 use Rattle.nob_model_work.specs.Work.{work}
 use Rattle.nob_model_work.specs.Gifts.{gifts_of, gifts}
 use Rattle.nob_model_history.specs.declared.transit.SentItem.{SentItem}
 use Rattle.nob_model_history.specs.Histories.{history_of}
 use Rattle.nob_model_history.specs.Ends.{items_to}
-use Rattle.nob_model_history.specs.Transit.{count_to, with_gifts, sent, asks_for, dirties, once_last, by_last_dirty}
-use Rattle.nob_model_history.proofs.Numbered.{items_sent_to, gifts_sent_to}
-use Rattle.nob_model_history.proofs.Sending.{next_item, new_items, sent_more}
+use Rattle.nob_model_history.specs.Transit.{is_sent_to, count_to, next_sent, with_gifts, sent, asks_for, dirties, once_last, by_last_dirty}
+use Rattle.nob_model_history.proofs.Numbered.{items_sent_in, gifts_sent_in, gifts_sent_now}
+use Rattle.nob_model_history.proofs.Sending.{new_items, sent_more}
 use Rattle.nob_model_history.proofs.Turning.{same_ref}
 use Rattle.nob_model.proofs.Carrying.{all_push}
 use Rattle.nob_model.proofs.Waiting.{all_weaker}
 use Rattle.nob_model_invariant.specs.Asking.{ask_in, asks_among, last_or}
 use Rattle.nob_model_invariant.proofs.Asked.{asks_of}
-use Rattle.nob_model_invariant.proofs.Lists.{all_append, all_pass, place_in_whole}
+use Rattle.nob_model_holdings.proofs.Lists.{all_append, all_pass, place_in_whole}
 
 -- ---- numbers and places
 
--- an item that was sent stands at its place
+-- an item that was sent stands at its place among those of its session
 abbrev pub IsPlaced : List SentItem → SentItem → Type 0
-IsPlaced all one = (slice_get (items_sent_to one.to all) (one.number - 1) ≡ Some one.item) × (1 ≤ one.number)
+IsPlaced all one = (slice_get (items_sent_in one.to one.session all) (one.number - 1) ≡ Some one.item) × (1 ≤ one.number)
 
 at_end : {X : Type 0} (xs : List X) (x : X) → slice_get (xs ++ x ∷ []) (length xs) ≡ Some x
 at_end [] x = refl
@@ -40,41 +40,44 @@ at_end (y ∷ xs) x = at_end xs x
 one_to : (p : ℕ) (gift : Gift) → (gift.to == p) ≡ true → items_to p (gift ∷ []) ≡ gift.item ∷ []
 one_to p gift own = ap (λ (b : Bool). map (λ (one : Gift). one.item) (cond b (gift ∷ []) [])) own
 
-placed_on : (before : List SentItem) (gift : Gift) (one : SentItem) → IsPlaced before one → IsPlaced (before ++ next_item before gift ∷ []) one
-placed_on before gift one at = (place_in_whole (items_sent_to one.to before) (items_to one.to (gift ∷ [])) _ (one.number - 1) one.item (sym (gifts_sent_to one.to (gift ∷ []) before)) at.0, at.1)
+placed_on : (D : List Deed) (before : List SentItem) (gift : Gift) (one : SentItem) → IsPlaced before one → IsPlaced (before ++ next_sent D before gift ∷ []) one
+placed_on D before gift one at = (place_in_whole (items_sent_in one.to one.session before) (cond (number one.to D == one.session) (items_to one.to (gift ∷ [])) []) _ (one.number - 1) one.item (sym (gifts_sent_in one.to one.session D (gift ∷ []) before)) at.0, at.1)
 
-placed_new : (before : List SentItem) (gift : Gift) → IsPlaced (before ++ next_item before gift ∷ []) (next_item before gift)
-placed_new before gift = (
-  ap (λ (more : List Item). slice_get more ((count_to gift.to before + 1) - 1)) (gifts_sent_to gift.to (gift ∷ []) before ∙ ap (λ (more : List Item). items_sent_to gift.to before ++ more) (one_to gift.to gift (eq-eqb gift.to gift.to refl)))
-      ∙ ap (λ (place : ℕ). slice_get (items_sent_to gift.to before ++ gift.item ∷ []) place) place
-      ∙ at_end (items_sent_to gift.to before) gift.item,
+placed_new : (D : List Deed) (before : List SentItem) (gift : Gift) → IsPlaced (before ++ next_sent D before gift ∷ []) (next_sent D before gift)
+placed_new D before gift = (
+  ap (λ (more : List Item). slice_get more ((count_to gift.to k before + 1) - 1)) (gifts_sent_now gift.to D (gift ∷ []) before ∙ ap (λ (more : List Item). items_sent_in gift.to k before ++ more) (one_to gift.to gift (eq-eqb gift.to gift.to refl)))
+      ∙ ap (λ (place : ℕ). slice_get (items_sent_in gift.to k before ++ gift.item ∷ []) place) place
+      ∙ at_end (items_sent_in gift.to k before) gift.item,
   low,
 )
   where
-    size : length (items_sent_to gift.to before) ≡ count_to gift.to before
-    size = length-map (filter (λ (one : SentItem). one.to == gift.to) before) (λ (one : SentItem). one.item)
+    k : ℕ
+    k = number gift.to D
 
-    place : (count_to gift.to before + 1) - 1 ≡ length (items_sent_to gift.to before)
+    size : length (items_sent_in gift.to k before) ≡ count_to gift.to k before
+    size = length-map (filter (is_sent_to gift.to k) before) (λ (one : SentItem). one.item)
+
+    place : (count_to gift.to k before + 1) - 1 ≡ length (items_sent_in gift.to k before)
     place = omega (arith, size)
 
-    low : 1 ≤ count_to gift.to before + 1
+    low : 1 ≤ count_to gift.to k before + 1
     low = omega arith
 
-placed_gifts : (more : List Gift) (before : List SentItem) → AllByRecursion (IsPlaced before) before → AllByRecursion (IsPlaced (with_gifts before more)) (with_gifts before more)
-placed_gifts [] before all = all
-placed_gifts (gift ∷ more) before all =
-    placed_gifts more (before ++ next_item before gift ∷ [])
-    (all_push (IsPlaced (before ++ next_item before gift ∷ [])) before (next_item before gift) (all_weaker (IsPlaced before) (IsPlaced (before ++ next_item before gift ∷ [])) (placed_on before gift) before all) (placed_new before gift))
+placed_gifts : (D : List Deed) (more : List Gift) (before : List SentItem) → AllByRecursion (IsPlaced before) before → AllByRecursion (IsPlaced (with_gifts D before more)) (with_gifts D before more)
+placed_gifts D [] before all = all
+placed_gifts D (gift ∷ more) before all =
+    placed_gifts D more (before ++ next_sent D before gift ∷ [])
+    (all_push (IsPlaced (before ++ next_sent D before gift ∷ [])) before (next_sent D before gift) (all_weaker (IsPlaced before) (IsPlaced (before ++ next_sent D before gift ∷ [])) (placed_on D before gift) before all) (placed_new D before gift))
 
 pub all_placed : (s n : ℕ) (D : List Deed) → AllByRecursion (IsPlaced (sent (history_of s n D))) (sent (history_of s n D))
 all_placed s n [] = tt
-all_placed s n (deed ∷ D) = placed_gifts (gifts s n deed D (work s n D)) (sent (history_of s n D)) (all_placed s n D)
+all_placed s n (deed ∷ D) = placed_gifts D (gifts s n deed D (work s n D)) (sent (history_of s n D)) (all_placed s n D)
 
 -- ---- receivers are peers
 
-new_to_peers : (s n : ℕ) (more : List Gift) (before : List SentItem) → AllByRecursion (λ (gift : Gift). is_peer s n gift.to ≡ true) more → AllByRecursion (λ (one : SentItem). is_peer s n one.to ≡ true) (new_items before more)
-new_to_peers s n [] before all = tt
-new_to_peers s n (gift ∷ more) before all = (all.0, new_to_peers s n more (before ++ next_item before gift ∷ []) all.1)
+new_to_peers : (s n : ℕ) (D : List Deed) (more : List Gift) (before : List SentItem) → AllByRecursion (λ (gift : Gift). is_peer s n gift.to ≡ true) more → AllByRecursion (λ (one : SentItem). is_peer s n one.to ≡ true) (new_items D before more)
+new_to_peers s n D [] before all = tt
+new_to_peers s n D (gift ∷ more) before all = (all.0, new_to_peers s n D more (before ++ next_sent D before gift ∷ []) all.1)
 
 pub sent_to_peers : (s n : ℕ) (D : List Deed) → AllByRecursion (λ (one : SentItem). is_peer s n one.to ≡ true) (sent (history_of s n D))
 unfolding gifts
@@ -82,7 +85,7 @@ sent_to_peers s n [] = tt
 sent_to_peers s n (deed ∷ D) =
     subst (AllByRecursion (λ (one : SentItem). is_peer s n one.to ≡ true)) (sym (sent_more s n deed D))
     (all_append (λ (one : SentItem). is_peer s n one.to ≡ true) (sent (history_of s n D)) _ (sent_to_peers s n D)
-    (new_to_peers s n (gifts s n deed D (work s n D)) (sent (history_of s n D)) (all_pass (λ (gift : Gift). is_peer s n gift.to) (gifts_of s n deed D (work s n D)))))
+    (new_to_peers s n D (gifts s n deed D (work s n D)) (sent (history_of s n D)) (all_pass (λ (gift : Gift). is_peer s n gift.to) (gifts_of s n deed D (work s n D)))))
 
 -- ---- what was asked for
 
@@ -114,9 +117,9 @@ dirty_asks rep to (items.DirtyOk index) own is = cc
 dirty_asks rep to (items.DirtyNo index) own is = cc
 
 -- what is asked for stands among the references that were asked for
-asked_among : (rep : WireRep) (all : List SentItem) → list_any (λ ask. ask) (asks_among rep.index (items_sent_to rep.owner all)) ≡ true → list_any (is_same rep) (filter_map (λ (one : SentItem). asks_for one.to one.item) all) ≡ true
-asked_among rep [] any = cc
-asked_among rep (one ∷ all) any = by (asked_among rep all) (one.to == rep.owner) refl any
+asked_among : (rep : WireRep) (k : ℕ) (all : List SentItem) → list_any (λ ask. ask) (asks_among rep.index (items_sent_in rep.owner k all)) ≡ true → list_any (is_same rep) (filter_map (λ (one : SentItem). asks_for one.to one.item) all) ≡ true
+asked_among rep k [] any = cc
+asked_among rep k (one ∷ all) any = by (asked_among rep k all) (is_sent_to rep.owner k one) refl any
   where
     rest : List WireRep
     rest = filter_map (λ (o : SentItem). asks_for o.to o.item) all
@@ -128,13 +131,13 @@ asked_among rep (one ∷ all) any = by (asked_among rep all) (one.to == rep.owne
     first : (other : WireRep) × (asks_for one.to one.item ≡ Some other) × (is_same rep other ≡ true) → list_any (is_same rep) (cons_option (asks_for one.to one.item) rest) ≡ true
     first its = ap (λ (found : Option WireRep). list_any (is_same rep) (cons_option found rest)) its.1 ∙ or_left (is_same rep its.0) _ its.2
 
-    mine : (list_any (λ ask. ask) (asks_among rep.index (items_sent_to rep.owner all)) ≡ true → list_any (is_same rep) rest ≡ true) → (asks : Option Bool) → ask_in rep.index one.item ≡ asks → (one.to == rep.owner) ≡ true → list_any (λ ask. ask) (cons_option asks (asks_among rep.index (items_sent_to rep.owner all))) ≡ true → list_any (is_same rep) (cons_option (asks_for one.to one.item) rest) ≡ true
+    mine : (list_any (λ ask. ask) (asks_among rep.index (items_sent_in rep.owner k all)) ≡ true → list_any (is_same rep) rest ≡ true) → (asks : Option Bool) → ask_in rep.index one.item ≡ asks → (one.to == rep.owner) ≡ true → list_any (λ ask. ask) (cons_option asks (asks_among rep.index (items_sent_in rep.owner k all))) ≡ true → list_any (is_same rep) (cons_option (asks_for one.to one.item) rest) ≡ true
     mine others None is own any = behind (asks_for one.to one.item) (others any)
     mine others (Some true) is own any = first (dirty_asks rep one.to one.item own is)
     mine others (Some false) is own any = behind (asks_for one.to one.item) (others any)
 
-    by : (list_any (λ ask. ask) (asks_among rep.index (items_sent_to rep.owner all)) ≡ true → list_any (is_same rep) rest ≡ true) → (own : Bool) → (one.to == rep.owner) ≡ own → list_any (λ ask. ask) (asks_among rep.index (map (λ (o : SentItem). o.item) (cond own (one ∷ filter (λ (o : SentItem). o.to == rep.owner) all) (filter (λ (o : SentItem). o.to == rep.owner) all)))) ≡ true → list_any (is_same rep) (cons_option (asks_for one.to one.item) rest) ≡ true
-    by others true own any = mine others (ask_in rep.index one.item) refl own any
+    by : (list_any (λ ask. ask) (asks_among rep.index (items_sent_in rep.owner k all)) ≡ true → list_any (is_same rep) rest ≡ true) → (own : Bool) → is_sent_to rep.owner k one ≡ own → list_any (λ ask. ask) (asks_among rep.index (map (λ (o : SentItem). o.item) (cond own (one ∷ filter (is_sent_to rep.owner k) all) (filter (is_sent_to rep.owner k) all)))) ≡ true → list_any (is_same rep) (cons_option (asks_for one.to one.item) rest) ≡ true
+    by others true own any = mine others (ask_in rep.index one.item) refl (and_parts (one.to == rep.owner) (one.session == k) own).0 any
     by others false own any = behind (asks_for one.to one.item) (others any)
 
 -- each reference stands once, but it stands
@@ -154,4 +157,4 @@ false_or asks (inr any) = any
 
 -- what was asked for last by a Dirty stands among the references in order of their last Dirties
 pub stands_last : (s n : ℕ) (rep : WireRep) (D : List Deed) → last_or false (asks_of s n rep D) ≡ true → list_any (is_same rep) (by_last_dirty (history_of s n D)) ≡ true
-stands_last s n rep D asks = once_stands rep (dirties (history_of s n D)) (asked_among rep (sent (history_of s n D)) (false_or (asks_of s n rep D) (last_asks false (asks_of s n rep D) asks)))
+stands_last s n rep D asks = once_stands rep (dirties (history_of s n D)) (asked_among rep (number rep.owner D) (sent (history_of s n D)) (false_or (asks_of s n rep D) (last_asks false (asks_of s n rep D) asks)))

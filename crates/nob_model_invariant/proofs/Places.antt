@@ -17,15 +17,16 @@ use Rattle.nob_model_types.specs.Objects.{is_exported}
 use Rattle.nob_model_types.specs.Turns.{is_pending}
 use Rattle.nob_model_acting.specs.Acting.{fault_if, fault_of, is_unknown, awaits_answer}
 use Rattle.nob_model.proofs.Orderly.{exported}
-use Rattle.nob_model_journal.specs.Journals.{deeds_at, history_at, sent_to, acted_from}
+use Rattle.nob_model_journal.specs.Journals.{deeds_at, history_at, number_at, sent_in, sent_now, sent_to, acted_from}
 use Rattle.nob_model_journal.specs.Runs.{WorldRun}
-use Rattle.nob_model_journal.specs.Fronts.{ActsInOrder}
 use Rattle.nob_model_invariant.specs.Typed.{AreOfTypes}
-use Rattle.nob_model_invariant.specs.Asking.{answer_in, answers_among, items_among, dirties_in, last_or, turns_by, AskedInTurn, asked, heard, was_asked, gave}
+use Rattle.nob_model_invariant.specs.Asking.{ask_in, answer_in, asks_among, answers_among, items_among, dirties_in, last_or, turns_by, AskedInTurn, asked, heard, was_asked}
 use Rattle.nob_model_invariant.specs.Naming.{NamesExported}
-use Rattle.nob_model_invariant.proofs.Lists.{all_at, next_of_rest, numbered_at}
+use Rattle.nob_model_holdings.proofs.Lists.{all_at, next_of_rest}
+use Rattle.nob_model_invariant.proofs.Numbered.{numbered_at}
 use Rattle.nob_model_invariant.proofs.Entries.{right_deeds_at}
-use Rattle.nob_model_invariant.proofs.Order.{in_order}
+use Rattle.nob_model_invariant.proofs.BySession.{bounded_in}
+use Rattle.nob_model_invariant.proofs.Order.{ActsNow, in_order_now}
 use Rattle.nob_model_invariant.proofs.Naming.{names}
 use Rattle.nob_model_invariant.proofs.SafetyPoints.{clients, owners}
 use Rattle.nob_model_invariant.proofs.Listings.{items_split, items_begin, asks_begin, dirties_append}
@@ -44,12 +45,12 @@ known_index s n x limits J run known =
 
 -- the next item names what was exported
 next_names : (n a b : ℕ) (limits : ℕ → Limits) (item : Item) (J : List Entry) → WorldRun n limits J → AreOfTypes J → IsNext n a b item J → NamesExported J b item
-next_names n a b limits item J run typed next = all_at (NamesExported J b) (sent_to n a b J) (length (acted_from a b J)) item ((names n limits J run typed).exported a b) next
+next_names n a b limits item J run typed next = all_at (NamesExported J b) (sent_to n a b J) (length (acted_from a b J)) item ((names n limits J run typed).exported a b (number_at b a J)) next
 
 -- ---- answers
 
 -- what stands behind what was acted on begins with the next item
-pub rest_next : (n a b : ℕ) (item : Item) (J : List Entry) → (begins : ActsInOrder n a b J) → IsNext n a b item J → (more : List (ℕ × Option Item)) × (begins.0 ≡ (1 + length (acted_from a b J), Some item) ∷ more)
+pub rest_next : (n a b : ℕ) (item : Item) (J : List Entry) → (begins : ActsNow n a b J) → IsNext n a b item J → (more : List (ℕ × Option Item)) × (begins.0 ≡ (1 + length (acted_from a b J), Some item) ∷ more)
 rest_next n a b item J begins next =
     next_of_rest (acted_from a b J) begins.0 (1 + length (acted_from a b J), Some item)
     (subst (λ pairs. slice_get pairs (length (acted_from a b J)) ≡ Some (1 + length (acted_from a b J), Some item)) (sym begins.1) (numbered_at 1 (sent_to n a b J) (length (acted_from a b J)) item next))
@@ -58,15 +59,29 @@ one_first : (x : ℕ) (item : Item) (w : Bool) (rest : List Item) → answer_in 
 one_first x item w rest is = subst (λ one. 1 ≤ length (cons_option one (answers_among x rest))) (sym is) (omega arith)
 
 -- an answer that comes next wasn't heard yet
-fewer_heard : (n o c x : ℕ) (item : Item) (w : Bool) (J : List Entry) → ActsInOrder n o c J → IsNext n o c item J → answer_in x item ≡ Some w → length (answers_among x (items_among (acted_from o c J))) + 1 ≤ length (gave n o c x J)
+fewer_heard : (n o c x : ℕ) (item : Item) (w : Bool) (J : List Entry) → ActsNow n o c J → IsNext n o c item J → answer_in x item ≡ Some w → length (answers_among x (items_among (acted_from o c J))) + 1 ≤ length (answers_among x (sent_to n o c J))
 fewer_heard n o c x item w J begins next is =
     let rest = rest_next n o c item J begins next in
     let acted : List Item = items_among (acted_from o c J) in
     let behind : List Item = items_among begins.0 in
     let some : 1 ≤ length (answers_among x behind) = subst (λ pairs. 1 ≤ length (answers_among x (items_among pairs))) (sym rest.1) (one_first x item w (items_among rest.0) is) in
-    let whole : answers_among x acted ++ answers_among x behind ≡ gave n o c x J = sym (filter_map-append (answer_in x) acted behind) ∙ ap (answers_among x) (items_split n o c J begins) in
+    let whole : answers_among x acted ++ answers_among x behind ≡ answers_among x (sent_to n o c J) = sym (filter_map-append (answer_in x) acted behind) ∙ ap (answers_among x) (items_split n o c J begins) in
     let size = ap length (sym whole) ∙ length-append (answers_among x acted) (answers_among x behind) in
     omega (arith, some, size)
+
+more_answers : (x : ℕ) (xs ys : List Item) → dirties_in (asks_among x xs) ≤ dirties_in (asks_among x (xs ++ ys))
+more_answers x xs ys = let whole = ap dirties_in (filter_map-append (ask_in x) xs ys) ∙ dirties_append (asks_among x xs) (asks_among x ys) in omega (arith, whole)
+
+-- in each session an owner answered no more Dirties than the client sent
+fewer_answers : (n o c x k : ℕ) (limits : ℕ → Limits) (J : List Entry) → WorldRun n limits J → AreOfTypes J → length (answers_among x (sent_in n o c k J)) ≤ dirties_in (asks_among x (sent_in n c o k J))
+fewer_answers n o c x k limits J run typed = bounded_in n o c k limits (λ all. length (answers_among x all)) (λ all. dirties_in (asks_among x all)) refl (more_answers x) present J run typed
+  where
+    present : (J : List Entry) → WorldRun n limits J → AreOfTypes J → length (answers_among x (sent_now n o c J)) ≤ dirties_in (asks_among x (sent_to n c o J))
+    present J run typed =
+        let each = ((owners n limits J run).answered o c x).each in
+        let asks = asks_begin x (items_among (acted_from c o J)) (sent_to n c o J) (items_begin n c o J (in_order_now n limits J run typed c o)) in
+        let sent = ap dirties_in (sym asks.1) ∙ dirties_append (was_asked o c x J) asks.0 in
+        omega (arith, each, sent)
 
 pending_by : (asks answers : List Bool) → AskedInTurn asks answers → length answers + 1 ≤ dirties_in asks → is_pending (turns_by asks answers) ≡ true
 pending_by asks answers turn fewer = by turn.counts
@@ -79,11 +94,9 @@ pending_by asks answers turn fewer = by turn.counts
 answer_waited : (n o c x : ℕ) (limits : ℕ → Limits) (item : Item) (w : Bool) (J : List Entry) → WorldRun n limits J → AreOfTypes J → IsNext n o c item J → answer_in x item ≡ Some w → awaits_answer c n o x (history_at c n J) ≡ true
 answer_waited n o c x limits item w J run typed next is =
     let rep : WireRep = record { owner = o; index = x } in
-    let less = fewer_heard n o c x item w J (in_order n limits J run typed o c) next is in
-    let each = ((owners n limits J run).answered o c x).each in
-    let asks = asks_begin x (items_among (acted_from c o J)) (sent_to n c o J) (items_begin n c o J (in_order n limits J run typed c o)) in
-    let sent = ap dirties_in (sym asks.1) ∙ dirties_append (was_asked o c x J) asks.0 in
-    let fewer : length (heard c rep J) + 1 ≤ dirties_in (asked n c rep J) = omega (arith, less, each, sent) in
+    let less = fewer_heard n o c x item w J (in_order_now n limits J run typed o c) next is in
+    let most = fewer_answers n o c x (number_at c o J) limits J run typed in
+    let fewer : length (heard c rep J) + 1 ≤ dirties_in (asked n c rep J) = omega (arith, less, most) in
     ap is_pending ((clients n limits J run).turns_are c rep) ∙ pending_by (asked n c rep J) (heard c rep J) ((clients n limits J run).taken c rep) fewer
 
 -- ---- faults

@@ -189,7 +189,7 @@ pub open_before : (p : ℕ) (deed : Deed) (D : List Deed) → closed p (deed ∷
 open_before p (did.Closing q reason cause) D up = (or_parts (q == p) (closed p D) up).1
 open_before p deed D up = up
 
-or_false : (b c : Bool) → c ≡ false → (b || c) ≡ true → b ≡ true
+pub or_false : (b c : Bool) → c ≡ false → (b || c) ≡ true → b ≡ true
 or_false true c none either = refl
 or_false false c none either = absurd (both_ways c none either)
 

@@ -12,13 +12,13 @@ use Rattle.nob_model_journal.specs.Journals.{history_at}
 use Rattle.nob_model_invariant.proofs.Alive.{held_alive}
 use Rattle.nob_model_invariant.proofs.Settling.{settled_once}
 use Rattle.nob_model_invariant.proofs.Settled.{settled_carry}
-use Rattle.nob_model_journal.specs.Journals.{deeds_at, sent_to}
+use Rattle.nob_model_journal.specs.Journals.{deeds_at, sent_now}
 use Rattle.nob_model_invariant.specs.SafetyLaws.{ClientsLaw, OwnersLaw, HoldingsLaw, SettlementsLaw, LivingLaw}
 use Rattle.nob_model_invariant.proofs.Entries.{right_deeds_at}
 use Rattle.nob_model_invariant.proofs.Clients.{are_turned}
 use Rattle.nob_model_invariant.proofs.Owners.{are_answered}
-use Rattle.nob_model_invariant.proofs.Granted.{held_owned}
-use Rattle.nob_model_invariant.proofs.Holdings.{holds_owned, pinned_owned}
+use Rattle.nob_model_holdings.proofs.Granted.{held_owned}
+use Rattle.nob_model_holdings.proofs.Holdings.{holds_owned, pinned_owned}
 
 pub clients : ClientsLaw
 clients n limits J run = record {
@@ -42,7 +42,7 @@ holdings n limits J run = record {
 pub settlements : SettlementsLaw
 settlements n limits J run = record {
   once = λ a b. (settled_once b n (limits b) a (deeds_at b J) (right_deeds_at n limits J run b)).once;
-  were_acted = λ a b. subst (λ (t : ℕ). AllByRecursion (λ k. k ≤ t) (settles_among (sent_to n b a J))) (sym (acted_takes b n a (deeds_at b J))) (settled_once b n (limits b) a (deeds_at b J) (right_deeds_at n limits J run b)).low;
+  were_acted = λ a b. subst (λ (t : ℕ). AllByRecursion (λ k. k ≤ t) (settles_among (sent_now n b a J))) (sym (acted_takes b n a (deeds_at b J))) (settled_once b n (limits b) a (deeds_at b J) (right_deeds_at n limits J run b)).low;
   carried = λ a b. (settled_carry b n (limits b) a (deeds_at b J) (right_deeds_at n limits J run b)).settled;
   none_waits = λ a b. (settled_once b n (limits b) a (deeds_at b J) (right_deeds_at n limits J run b)).over;
 }

@@ -24,7 +24,7 @@ use Rattle.nob_model.specs.Lists.{AreRightDeeds}
 use Rattle.nob_model.proofs.Carrying.{all_push, all_without, all_found}
 use Rattle.nob_model.proofs.Waiting.{settled_message, act_number, all_weaker}
 use Rattle.nob_model_invariant.specs.Settles.{IsCarrying}
-use Rattle.nob_model_invariant.proofs.Lists.{place_in_whole}
+use Rattle.nob_model_holdings.proofs.Lists.{place_in_whole}
 use Rattle.nob_model_invariant.proofs.Settling.{waits_more, others_wait, settles_of, is_settle, settles_same, settles_now}
 
 -- ---- items that were acted on

@@ -21,7 +21,7 @@ use Rattle.nob_model_work.specs.Work.{without_first, wait, make_ready, make_repl
 use Rattle.nob_model.proofs.Carrying.{all_push, all_filter, all_without, all_found, all_mapped}
 use Rattle.nob_item.specs.Kinds.{counted_in}
 use Rattle.nob_model_types.specs.declared.event.Outcome.{Outcome}
-use Rattle.nob_model_types.specs.Sessions.{is_peer}
+use Rattle.nob_model_types.specs.Sessions.{is_peer, number}
 use Rattle.nob_model_types.specs.Objects.{is_live, is_exported}
 use Rattle.nob_model_types.specs.Turns.{turns}
 use Rattle.nob_model_work.specs.Work.{is_run}
@@ -31,11 +31,11 @@ use Rattle.nob_model_work.specs.Gifts.{dirty_for, dirties_for, answer_to, gifts_
 use Rattle.nob_model_history.specs.Histories.{history_of}
 use Rattle.nob_model_history.specs.Ends.{items_to, calls_at}
 use Rattle.nob_model_history.specs.Transit.{sent}
-use Rattle.nob_model_history.proofs.Numbered.{items_sent_to, gifts_sent_to}
+use Rattle.nob_model_history.proofs.Numbered.{items_sent_in, gifts_sent_now}
 use Rattle.nob_model.proofs.Waiting.{AreApart, IsOpenIn, are_waiting, settled_message, act_number, all_weaker}
 use Rattle.nob_model.specs.Lists.{IsRightDeed, AreRightDeeds}
 use Rattle.nob_model_history.proofs.Inbox.{takes_no_fewer}
-use Rattle.nob_model_invariant.proofs.Lists.{all_both}
+use Rattle.nob_model_holdings.proofs.Lists.{all_both}
 use Rattle.nob_model_invariant.specs.Settles.{settle_in, is_in, AreOnce}
 use Rattle.nob_model_invariant.proofs.Owners.{any_push}
 
@@ -105,9 +105,9 @@ module _ (P : Message → Type 0) where
 
 -- ---- numbers that were settled
 
--- the numbers of the items from p that were settled
+-- the numbers of the items from p that were settled in the session in which space s is
 abbrev pub settles_of : (s n p : ℕ) → List Deed → List ℕ
-settles_of s n p D = filter_map settle_in (items_sent_to p (sent (history_of s n D)))
+settles_of s n p D = filter_map settle_in (items_sent_in p (number p D) (sent (history_of s n D)))
 
 flip_false : (a b : ℕ) → (a == b) ≡ false → (b == a) ≡ false
 flip_false a b e = ne_eqb b a (λ same. eqb-false a b e (sym same))
@@ -138,8 +138,8 @@ settles_to p (gift ∷ more) = to_peer p (gift.to == p) gift (filter (λ (one : 
 settles_more : (s n p : ℕ) (deed : Deed) (D : List Deed) → settles_of s n p (deed ∷ D) ≡ settles_of s n p D ++ gifts_settle p (gifts s n deed D (work s n D))
 settles_more s n p deed D =
     let more : List Gift = gifts s n deed D (work s n D) in
-    ap (filter_map settle_in) (gifts_sent_to p more (sent (history_of s n D)))
-    ∙ filter_map-append settle_in (items_sent_to p (sent (history_of s n D))) (items_to p more)
+    ap (filter_map settle_in) (gifts_sent_now p D more (sent (history_of s n D)))
+    ∙ filter_map-append settle_in (items_sent_in p (number p D) (sent (history_of s n D))) (items_to p more)
     ∙ ap (λ ks. settles_of s n p D ++ ks) (settles_to p more)
 
 abbrev SettleNone : List Gift → Type 0

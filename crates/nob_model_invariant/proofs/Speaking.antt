@@ -21,11 +21,11 @@ use Rattle.nob_model.specs.Lists.{IsRightDeed, AreRightDeeds}
 use Rattle.nob_model.proofs.Doing.{was_answered}
 use Rattle.nob_model.proofs.Accepted.{found_passes, call_tells, act_tells, clean_tells}
 use Rattle.nob_model.proofs.Waiting.{all_weaker}
-use Rattle.nob_model_journal.specs.Journals.{deeds_at, history_at, sent_to, acted_from}
+use Rattle.nob_model_journal.specs.Journals.{deeds_at, history_at, number_at, sent_to, acted_from}
 use Rattle.nob_model_journal.specs.Runs.{WorldRun}
 use Rattle.nob_model_invariant.specs.Typed.{AreOfTypes}
 use Rattle.nob_model_invariant.specs.Naming.{object_of, WasExported, NamesExported}
-use Rattle.nob_model_invariant.proofs.Lists.{all_at, all_split, some_same}
+use Rattle.nob_model_holdings.proofs.Lists.{all_at, all_split, some_same}
 use Rattle.nob_model_invariant.proofs.Entries.{grows, right_deeds_at}
 use Rattle.nob_model_invariant.proofs.Clients.{asks_peer}
 use Rattle.nob_model_invariant.proofs.Order.{acts_on_next, all_fit}
@@ -51,7 +51,7 @@ acts_first : (n : ℕ) (limits : ℕ → Limits) (J : List Entry) → WorldRun n
 acts_first n limits J run typed s p k right item is =
     let own = acts_on_next p s n k limits J run (all_fit n limits J run typed p) right in
     let named : NamesExported J s item =
-    subst (NamesExported J s) (some_same own.item item (sym own.found ∙ is)) (all_at (NamesExported J s) (sent_to n p s J) (length (acted_from p s J)) own.item ((names n limits J run typed).exported p s) own.was_sent) in
+    subst (NamesExported J s) (some_same own.item item (sym own.found ∙ is)) (all_at (NamesExported J s) (sent_to n p s J) (length (acted_from p s J)) own.item ((names n limits J run typed).exported p s (number_at s p J)) own.was_sent) in
     all_weaker (WasExported J) (IsOfFirst n) (λ rep known. exports_first n limits J run rep.owner rep.index known) (counted_in item) (all_split (WasExported J) (object_of s item) (counted_in item) named).1
 
 -- what can be given up was asked of a peer

@@ -9,7 +9,7 @@ use Rattle.nob_model_types.specs.declared.turns.OwnerAnswer.TheVariants as said
 use Rattle.nob_model_types.specs.declared.turns.Turns.{Turns}
 use Rattle.nob_ids.specs.declared.wire_rep.WireRep.{WireRep}
 use Rattle.nob_model_types.specs.declared.entry.Entry.{Entry}
-use Rattle.nob_model_journal.specs.Journals.{sent_to, acted_from}
+use Rattle.nob_model_journal.specs.Journals.{sent_now, acted_from}
 
 -- what an item asks for the object of an index: true for a Dirty, false for a Clean
 abbrev pub ask_in : ℕ → Item → Option Bool
@@ -98,9 +98,9 @@ pub record AnsweredInTurn (asks answers : List Bool) : Type 0 where
   pub each : length answers ≡ dirties_in asks
   pub ok_first : OkFirst answers
 
--- what client c sent to ask the owner of a reference
+-- what client c sent to ask the owner of a reference in the session in which c is
 abbrev pub asked : (n c : ℕ) → WireRep → List Entry → List Bool
-asked n c rep J = asks_among rep.index (sent_to n c rep.owner J)
+asked n c rep J = asks_among rep.index (sent_now n c rep.owner J)
 
 -- what client c acted on of the owner's answers
 abbrev pub heard : (c : ℕ) → WireRep → List Entry → List Bool
@@ -110,6 +110,6 @@ heard c rep J = answers_among rep.index (items_among (acted_from rep.owner c J))
 abbrev pub was_asked : (o c x : ℕ) → List Entry → List Bool
 was_asked o c x J = asks_among x (items_among (acted_from c o J))
 
--- what owner o sent to answer client c for an index
+-- what owner o sent to answer client c for an index in the session in which o is
 abbrev pub gave : (n o c x : ℕ) → List Entry → List Bool
-gave n o c x J = answers_among x (sent_to n o c J)
+gave n o c x J = answers_among x (sent_now n o c J)

@@ -20,14 +20,14 @@ makes_call k (items.DirtyOk index) = false
 makes_call k (items.DirtyNo index) = false
 makes_call k (items.Clean index) = false
 
--- whether a message is Call k from p
-abbrev pub brings_call : (p k : ℕ) → Message → Bool
-brings_call p k message = message.from == p && makes_call k message.item
+-- whether a message is Call k from p in a session
+abbrev pub brings_call : (p session k : ℕ) → Message → Bool
+brings_call p session k message = message.from == p && message.session == session && makes_call k message.item
 
--- whether a job that runs is Call k from p
-abbrev pub runs_call : (p k : ℕ) → Run → Bool
-runs_call p k run = brings_call p k run.message
+-- whether a job that runs is Call k from p in a session
+abbrev pub runs_call : (p session k : ℕ) → Run → Bool
+runs_call p session k run = brings_call p session k run.message
 
--- how many messages of Call k from p wait, are ready or run
-abbrev pub calls_outstanding : (p k : ℕ) → Outstanding → ℕ
-calls_outstanding p k W = count_of (brings_call p k) W.waiting + count_of (brings_call p k) W.ready + count_of (runs_call p k) W.running
+-- how many messages of Call k from p in a session wait, are ready or run
+abbrev pub calls_outstanding : (p session k : ℕ) → Outstanding → ℕ
+calls_outstanding p session k W = count_of (brings_call p session k) W.waiting + count_of (brings_call p session k) W.ready + count_of (runs_call p session k) W.running

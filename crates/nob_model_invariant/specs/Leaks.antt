@@ -7,11 +7,12 @@ use Rattle.nob_model_types.specs.Sessions.{is_peer}
 use Rattle.nob_model_types.specs.Objects.{is_live}
 use Rattle.nob_model.specs.Right.{own_ref, right_settle, right_clean, right_withdraw}
 use Rattle.nob_model_journal.specs.Fronts.{with_numbers}
-use Rattle.nob_model_journal.specs.Journals.{deeds_at, history_at, closed_at, sent_to, acted_from}
+use Rattle.nob_model_journal.specs.Journals.{deeds_at, history_at, closed_at, are_in_one, sent_to, acted_from}
 use Rattle.nob_model_journal.specs.Safety.{can_use}
 
--- a session is open at both ends, and each has acted on all that the other sent
+-- a session is open: both ends are in it, and neither has closed it; and each has acted on all that the other sent in it
 pub record IsHeardOut (n a b : ℕ) (J : List Entry) : Type 0 where
+  pub in_one : are_in_one a b J ≡ true
   pub open_here : closed_at a b J ≡ false
   pub open_there : closed_at b a J ≡ false
   pub acted_there : acted_from a b J ≡ with_numbers 1 (sent_to n a b J)

@@ -1,5 +1,5 @@
 -- What is said of losses in every run of a world, one record a theme.
-use Rattle.std.specs.Prelude.{◌≡◌, ℕ, Bool, true, false, ◌||◌, ◌==◌, List, []}
+use Rattle.std.specs.Prelude.{◌≡◌, ℕ, Bool, true, false, ◌||◌, not, ◌==◌, List, []}
 use Rattle.std.specs.List.{AllByRecursion}
 use Rattle.nob_ids.specs.declared.wire_rep.WireRep.{WireRep}
 use Rattle.nob_model_types.specs.declared.entry.Entry.{Entry}
@@ -8,17 +8,18 @@ use Rattle.nob_model_types.specs.Turns.{turns, is_own, is_lost, is_pending, is_r
 use Rattle.nob_model_types.specs.declared.deed.Deed.{Deed}
 use Rattle.nob_model_types.specs.declared.message.Message.{Message}
 use Rattle.nob_model_work.specs.Work.{work}
-use Rattle.nob_model_history.specs.Transit.{sent, is_settled}
+use Rattle.nob_model_history.specs.Transit.{is_sent_to, sent, is_settled}
 use Rattle.nob_model.specs.Right.{own_ref}
-use Rattle.nob_model_journal.specs.Journals.{deeds_at, history_at, closed_at, sent_to, acted_from}
+use Rattle.nob_model_journal.specs.Journals.{deeds_at, history_at, closed_at, number_at, sent_now, acted_from}
 use Rattle.nob_model_journal.specs.Losses.{sources, is_excuse}
+use Rattle.nob_model_journal.specs.declared.losses.Source.{Source}
 use Rattle.nob_model_invariant.specs.Asking.{has_no, gave}
 use Rattle.nob_model_invariant.specs.Settles.{settles_among, is_in}
-use Rattle.nob_model_invariant.specs.Copies.{carries_any, is_waiting, copies}
+use Rattle.nob_model_invariant.specs.Copies.{carries_any, is_waiting}
 
 -- while b has not closed its session with a, each item from a that b acted on and that carries counted references waits in its message or was settled
 pub record Settled (n : ℕ) (J : List Entry) : Type 0 where
-  pub each : (a b : ℕ) → closed_at b a J ≡ false → AllByRecursion (λ pair. carries_any pair.1 ≡ true → (is_waiting a pair.0 (work b n (deeds_at b J)).waiting || is_in pair.0 (settles_among (sent_to n b a J))) ≡ true) (acted_from a b J)
+  pub each : (a b : ℕ) → closed_at b a J ≡ false → AllByRecursion (λ pair. carries_any pair.1 ≡ true → (is_waiting a pair.0 (work b n (deeds_at b J)).waiting || is_in pair.0 (settles_among (sent_now n b a J))) ≡ true) (acted_from a b J)
 
 -- whether a reference that came in a message is accounted for at space s: it is its own, it is lost, or it has a surrogate
 abbrev pub is_known : (s n : ℕ) → WireRep → List Deed → Bool
@@ -28,15 +29,19 @@ is_known s n rep D = is_own s rep || (is_lost s n rep D || is_standing (turns s 
 pub record Waiting (n : ℕ) (J : List Entry) : Type 0 where
   pub known : (b : ℕ) → AllByRecursion (λ (message : Message). AllByRecursion (λ copy. is_known b n copy.rep (deeds_at b J) ≡ true) message.copies) (work b n (deeds_at b J)).waiting
 
--- where an owner answered a client by DirtyNo, whatever it sent that client with a reference to the object is settled
+-- where an owner answered a client by DirtyNo, whatever it sent that client in their session with a reference to the object is settled
 pub record Denials (n : ℕ) (J : List Entry) : Type 0 where
-  pub settled : (o b x : ℕ) → has_no (gave n o b x J) ≡ true → AllByRecursion (λ one. (one.to == b) ≡ true → carries (own_ref o x) one.item ≡ true → is_settled b one.number (deeds_at o J) ≡ true) (sent (history_at o n J))
+  pub settled : (o b x : ℕ) → has_no (gave n o b x J) ≡ true → AllByRecursion (λ one. is_sent_to b (number_at o b J) one ≡ true → carries (own_ref o x) one.item ≡ true → is_settled b one.number (deeds_at o J) ≡ true) (sent (history_at o n J))
+
+-- whether space b has closed the session in which a copy came, or is in another one
+abbrev pub has_left : ℕ → Source → List Entry → Bool
+has_left b copy J = closed_at b copy.from J || not (copy.session == number_at b copy.from J)
 
 -- how it stands with the copies of a reference that b acted on since it last sent a Clean for it
 pub record Copies (n : ℕ) (J : List Entry) : Type 0 where
   -- without a surrogate on an open session there are none
-  pub none_without : (b : ℕ) (rep : WireRep) → is_peer b n rep.owner ≡ true → closed_at b rep.owner J ≡ false → is_standing (turns b n rep (deeds_at b J)) ≡ false → copies b n rep (deeds_at b J) ≡ []
-  -- while the owner's answer is awaited each waits in its message, or b has closed its session with the sender
-  pub pending_wait : (b : ℕ) (rep : WireRep) → closed_at b rep.owner J ≡ false → is_pending (turns b n rep (deeds_at b J)) ≡ true → AllByRecursion (λ copy. (is_waiting copy.0 copy.1 (work b n (deeds_at b J)).waiting || closed_at b copy.0 J) ≡ true) (copies b n rep (deeds_at b J))
+  pub none_without : (b : ℕ) (rep : WireRep) → is_peer b n rep.owner ≡ true → closed_at b rep.owner J ≡ false → is_standing (turns b n rep (deeds_at b J)) ≡ false → sources b n rep (deeds_at b J) ≡ []
+  -- while the owner's answer is awaited each waits in its message, or b has left the session in which it came
+  pub pending_wait : (b : ℕ) (rep : WireRep) → closed_at b rep.owner J ≡ false → is_pending (turns b n rep (deeds_at b J)) ≡ true → AllByRecursion (λ copy. (is_waiting copy.from copy.number (work b n (deeds_at b J)).waiting || has_left b copy J) ≡ true) (sources b n rep (deeds_at b J))
   -- where the owner refused it each is excused
-  pub refused_excused : (b : ℕ) (rep : WireRep) → is_refused (turns b n rep (deeds_at b J)) ≡ true → AllByRecursion (λ a. is_excuse b rep J a ≡ true) (sources b n rep (deeds_at b J))
+  pub refused_excused : (b : ℕ) (rep : WireRep) → is_refused (turns b n rep (deeds_at b J)) ≡ true → AllByRecursion (λ copy. is_excuse n b rep J copy ≡ true) (sources b n rep (deeds_at b J))

@@ -5,7 +5,7 @@ use Rattle.std.specs.List.{AllByRecursion, Contains}
 use Rattle.nob_frame.specs.declared.frame.Frame.{Frame}
 use Rattle.nob_frame.specs.Kinds.{is_data}
 use Rattle.nob_item.specs.Spelling.{Fits}
-use Rattle.nob_model_session.specs.End.{number, handed, accepted, transmitted}
+use Rattle.nob_model_session.specs.End.{number, up_to, handed, accepted, transmitted}
 use Rattle.nob_model_session.specs.Pair.{IsBeginning, Reaches}
 use Rattle.nob_model_session.specs.declared.entry.EndEntry.{EndEntry}
 use Rattle.nob_ids.specs.declared.reason.Reason.TheVariants.{BadItem}
@@ -27,7 +27,7 @@ use Rattle.nob_model.specs.Right.{own_ref}
 use Rattle.nob_model_invariant.specs.Settles.{settles_among, is_in, AreOnce, IsCarrying}
 use Rattle.nob_model_invariant.specs.Naming.{NamesExported}
 use Rattle.nob_model_invariant.specs.Asking.{asked, heard, was_asked, gave, turns_by, has_no, last_or, last_word, AskedInTurn, AnsweredInTurn}
-use Rattle.nob_model_journal.specs.Journals.{deeds_at, closed_at, history_at, sent_to, acted_from, transmitted_frames}
+use Rattle.nob_model_journal.specs.Journals.{deeds_at, closed_at, history_at, number_at, are_in_one, sent_in, sent_now, sent_to, acted_from, transmitted_frames}
 use Rattle.nob_model_journal.specs.Fronts.{ActsInOrder}
 
 -- a frame as an end gave it: it is of the end's session, acknowledges no more than the end accepted, and a Data frame carries the transmitted payload of its number
@@ -38,18 +38,22 @@ pub record IsCarried (calls : List EndEntry) (frame : Frame) : Type 0 where
   pub is_numbered : is_data frame.kind ≡ true → 1 ≤ frame.seq
   pub carries : is_data frame.kind ≡ true → slice_get (handed calls) (frame.seq - 1) ≡ Some frame.payload
 
--- the sessions of every two spaces a and b, from a to b
+-- the calls on the end of space a with b up to those of session k
+abbrev pub calls_in : (n a b k : ℕ) → List Entry → List EndEntry
+calls_in n a b k J = up_to k (calls_at b (history_at a n J))
+
+-- the sessions of every two spaces a and b, from a to b: what b has of a is of the session in which b is, and of a's calls as they were in that
 pub record Sessions (n : ℕ) (J : List Entry) : Type 0 where
   -- every item that a sent has a spelling
-  pub items_spelt : (a b : ℕ) → AllByRecursion Fits (sent_to n a b J)
+  pub items_spelt : (a b k : ℕ) → AllByRecursion Fits (sent_in n a b k J)
   -- what came there of an item, accepted or kept, is a's of its number and was transmitted before, and what a heard acknowledged was accepted
-  pub reached : (a b : ℕ) → a ≢ b → Reaches (calls_at b (history_at a n J)) (calls_at a (history_at b n J))
+  pub reached : (a b : ℕ) → a ≢ b → Reaches (calls_in n a b (number_at b a J) J) (calls_at a (history_at b n J))
   -- b accepted a beginning of them
   pub accepted_in_order : (a b : ℕ) → a ≢ b → IsBeginning (accepted (calls_at a (history_at b n J))) (map payload_of (sent_to n a b J))
-  -- and acted on a beginning of them, in order
-  pub acted_in_order : (a b : ℕ) → ActsInOrder n a b J
-  -- every frame that was ever given is as its sender gave it
-  pub frames_carry : (frame : Frame) → Contains (transmitted_frames J) frame → IsCarried (calls_at frame.to (history_at frame.from n J)) frame
+  -- and in each session b acted on a beginning of what a sent in it, in order
+  pub acted_in_order : (a b k : ℕ) → ActsInOrder n a b k J
+  -- every frame that was ever given is as its sender gave it in the session of the frame
+  pub frames_carry : (frame : Frame) → Contains (transmitted_frames J) frame → IsCarried (calls_in n frame.from frame.to frame.session J) frame
 
 -- every client took turns with every owner: its turns for a reference are what it asked and what it heard
 pub record Clients (n : ℕ) (J : List Entry) : Type 0 where
@@ -65,13 +69,13 @@ pub record Owners (n : ℕ) (J : List Entry) : Type 0 where
   -- a client is entered for an index exactly where it asked last by a Dirty and was answered last by DirtyOk
   pub entered : (o c x : ℕ) → is_entered o x c (deeds_at o J) ≡ (last_or false (was_asked o c x J) && is_yes (last_word said.Pending (gave n o c x J)))
 
--- all that is named in what a space sent was exported by its owner
+-- all that is named in what a space sent, in whatever session, was exported by its owner
 pub record Names (n : ℕ) (J : List Entry) : Type 0 where
-  pub exported : (a b : ℕ) → AllByRecursion (NamesExported J b) (sent_to n a b J)
+  pub exported : (a b k : ℕ) → AllByRecursion (NamesExported J b) (sent_in n a b k J)
 
--- a client that is granted a reference is listed for it, unless the owner has closed their session
+-- a client that is granted a reference is listed for it, if the owner is in the client's session and hasn't closed it
 pub record Listings (n : ℕ) (J : List Entry) : Type 0 where
-  pub granted_listed : (c : ℕ) (rep : WireRep) → is_granted (turns c n rep (deeds_at c J)) ≡ true → closed_at rep.owner c J ≡ false → is_listed rep.owner rep.index c (deeds_at rep.owner J) ≡ true
+  pub granted_listed : (c : ℕ) (rep : WireRep) → is_granted (turns c n rep (deeds_at c J)) ≡ true → are_in_one c rep.owner J ≡ true → closed_at rep.owner c J ≡ false → is_listed rep.owner rep.index c (deeds_at rep.owner J) ≡ true
 
 -- what a space holds, and what has pins there, is own or granted
 pub record Holdings (n : ℕ) (J : List Entry) : Type 0 where
@@ -87,12 +91,12 @@ is_bad_item _ = false
 pub record Readings (n : ℕ) (J : List Entry) : Type 0 where
   pub none_bad : AllByRecursion (λ entry. is_bad_item entry.result ≡ false) J
 
--- what came to b from a is settled once: no item twice, each was acted on before and carries counted references, and none whose message waits
+-- what came to b from a in the session in which b is, it settles once: no item twice, each was acted on before and carries counted references, and none whose message waits
 pub record Settlements (n : ℕ) (J : List Entry) : Type 0 where
-  pub once : (a b : ℕ) → AreOnce (settles_among (sent_to n b a J))
-  pub were_acted : (a b : ℕ) → AllByRecursion (λ k. k ≤ length (acted_from a b J)) (settles_among (sent_to n b a J))
-  pub carried : (a b : ℕ) → AllByRecursion (IsCarrying (acted_from a b J)) (settles_among (sent_to n b a J))
-  pub none_waits : (a b : ℕ) → AllByRecursion (λ message. (message.from == a) ≡ true → is_in message.number (settles_among (sent_to n b a J)) ≡ false) (work b n (deeds_at b J)).waiting
+  pub once : (a b : ℕ) → AreOnce (settles_among (sent_now n b a J))
+  pub were_acted : (a b : ℕ) → AllByRecursion (λ k. k ≤ length (acted_from a b J)) (settles_among (sent_now n b a J))
+  pub carried : (a b : ℕ) → AllByRecursion (IsCarrying (acted_from a b J)) (settles_among (sent_now n b a J))
+  pub none_waits : (a b : ℕ) → AllByRecursion (λ message. (message.from == a) ≡ true → is_in message.number (settles_among (sent_now n b a J)) ≡ false) (work b n (deeds_at b J)).waiting
 
 -- what an owner holds of its own, what has pins there and what anyone is listed for is live
 pub record Living (n : ℕ) (J : List Entry) : Type 0 where

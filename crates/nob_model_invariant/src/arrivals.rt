@@ -11,10 +11,10 @@ pub fn guarded()
     ensures { GuardedLaw }
 {}
 
-/// In every run of a world Calls are numbered all different between two spaces, and so are Replies;
-/// each Reply is of a Call that was acted on, and of one whose message neither waits nor is ready
-/// nor runs; and a Call has its Reply acted on, or waits for one, unless its space has closed the
-/// session. Asked of the run: what each Call and Finish handed on is of its types.
+/// In every run of a world the Calls between two spaces in a session are numbered all different, and
+/// so are the Replies; each Reply is of a Call that was acted on, and of one whose message neither
+/// waits nor is ready nor runs; and a Call has its Reply acted on, or waits for one, unless its space
+/// has closed the session. Asked of the run: what each Call and Finish handed on is of its types.
 #[tactic(auto, using(crate::proofs::Answering::answers_law))]
 pub fn answers()
     ensures { AnswersLaw }

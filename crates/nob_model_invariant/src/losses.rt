@@ -2,8 +2,8 @@
 
 ghost use Rattle.nob_model_invariant.specs.LossLaws.{CopiesLaw, DenialsLaw, LeaksLaw, LossesLaw, SettledLaw, WaitingLaw};
 
-/// In every run of a world each item that carries counted references and was acted on is settled,
-/// unless its message still waits or the session with its sender closed there.
+/// In every run of a world each item that carries counted references and was acted on in the present
+/// session is settled, unless its message still waits or the session with its sender closed there.
 #[tactic(auto, using(crate::proofs::Points::settled))]
 pub fn settled()
     ensures { SettledLaw }
@@ -17,7 +17,7 @@ pub fn waiting()
 {}
 
 /// In every run of a world, where an owner answered a client by DirtyNo, all that it sent that
-/// client with a reference to the object is settled.
+/// client in their session with a reference to the object is settled.
 #[tactic(auto, using(crate::proofs::Points::denials))]
 pub fn denials()
     ensures { DenialsLaw }
@@ -25,16 +25,17 @@ pub fn denials()
 
 /// In every run of a world, of the copies of a reference that a space acted on since it last gave
 /// it up: without a surrogate there are none; while it is pending each waits in its message, or
-/// came on a session that closed there; where the owner refused it each is excused. Asked of the
-/// run: what each Call and Finish handed on is of its types.
+/// came in a session that the space has left; where the owner refused it each is excused. Asked of
+/// the run: what each Call and Finish handed on is of its types.
 #[tactic(auto, using(crate::proofs::Points::copied))]
 pub fn copies()
     ensures { CopiesLaw }
 {}
 
 /// In every run of a world no reference is lost without a cause: where an owner refuses one, each
-/// copy that came was sent by another space that had lost touch with the receiver or with the
-/// owner. Asked of the run: what each Call and Finish handed on is of its types.
+/// copy that came was sent by another space, and the session in which it came isn't open any more,
+/// or the one with the owner in which it was sent. Asked of the run: what each Call and Finish
+/// handed on is of its types.
 #[tactic(auto, using(crate::proofs::Excused::losses))]
 pub fn losses()
     ensures { LossesLaw }

@@ -2,18 +2,19 @@
 
 ghost use Rattle.nob_model_invariant.specs.SafetyLaws.{ClientsLaw, FrontsLaw, HoldingsLaw, ListingsLaw, LivingLaw, NamesLaw, OwnersLaw, ReadingsLaw, SafeWithdrawLaw, SessionsLaw, SettlementsLaw};
 
-/// In every run of a world, of every two spaces: each item that one sent the other has a spelling;
-/// what came of an item, accepted or kept until its turn, is the one of its number; of these the
-/// other accepted a beginning and acted on a beginning, in order; and each frame that was ever given
-/// carries what its sender handed on. Asked of the run: what each Call and Finish handed on is of
-/// its types.
+/// In every run of a world, of every two spaces and in each session: each item that one sent the
+/// other has a spelling; what came of an item, accepted or kept until its turn, is the one of its
+/// number; of these the other accepted a beginning and acted on a beginning, in order; and each
+/// frame that was ever given carries what its sender handed on. Asked of the run: what each Call
+/// and Finish handed on is of its types.
 #[tactic(auto, using(crate::proofs::Order::sessions))]
 pub fn sessions()
     ensures { SessionsLaw }
 {}
 
-/// In every run of a world what each space acted on from each peer is a beginning of what that peer
-/// sent it, every item once and in order, and nothing is acted on or sent after the session closed.
+/// In every run of a world what each space acted on from each peer in each session is a beginning of
+/// what that peer sent it in it, every item once and in order, and nothing is acted on or sent after
+/// the session closed.
 /// Asked of the run: what each Call and Finish handed on is of its types.
 #[tactic(auto, using(crate::proofs::Fronts::fronts_law))]
 pub fn fronts()
@@ -46,9 +47,9 @@ pub fn names()
     ensures { NamesLaw }
 {}
 
-/// In every run of a world a client that is granted a reference is listed for it at its owner,
-/// unless the owner has closed their session. Asked of the run: what each Call and Finish handed on
-/// is of its types.
+/// In every run of a world a client that is granted a reference is listed for it at its owner, if
+/// that is in the client's session and hasn't closed it. Asked of the run: what each Call and Finish
+/// handed on is of its types.
 #[tactic(auto, using(crate::proofs::Listings::listings))]
 pub fn listings()
     ensures { ListingsLaw }
@@ -61,8 +62,8 @@ pub fn holdings()
 {}
 
 /// In every run of a world no owner withdraws an object while a space that reaches it can use it,
-/// or while a copy of its reference is on its way between spaces that reach each other and the
-/// owner. Asked of the run: what each Call and Finish handed on is of its types.
+/// or while a copy of its reference is on its way in sessions that are open, the one with the owner
+/// in which it was sent too. Asked of the run: what each Call and Finish handed on is of its types.
 #[tactic(auto, using(crate::proofs::Withdrawing::safe_withdraw))]
 pub fn withdraws()
     ensures { SafeWithdrawLaw }
@@ -76,8 +77,8 @@ pub fn readings()
     ensures { ReadingsLaw }
 {}
 
-/// In every run of a world no item is settled twice, none that wasn't acted on, none that carries
-/// no counted reference, and none whose message waits.
+/// In every run of a world no item of a session is settled twice, none that wasn't acted on, none
+/// that carries no counted reference, and none whose message waits.
 #[tactic(auto, using(crate::proofs::SafetyPoints::settlements))]
 pub fn settlements()
     ensures { SettlementsLaw }

@@ -12,7 +12,7 @@ use Rattle.nob_item.specs.declared.item.Item.TheVariants as items
 use Rattle.nob_model_session.specs.Pair.{IsBeginning}
 use Rattle.nob_model_types.specs.declared.entry.Entry.{Entry}
 use Rattle.nob_model_types.specs.Deeds.{deed_in}
-use Rattle.nob_model_types.specs.Sessions.{closed, item_at, acted}
+use Rattle.nob_model_types.specs.Sessions.{closed, item_at}
 use Rattle.nob_model_types.specs.Turns.{turns, is_refused, carries}
 use Rattle.nob_model_types.specs.declared.deed.Deed.{Deed}
 use Rattle.nob_model_types.specs.declared.deed.Deed.TheVariants.{Act, Withdraw}
@@ -23,14 +23,15 @@ use Rattle.nob_model_history.specs.Histories.{history_of}
 use Rattle.nob_model_history.specs.Holds.{is_held}
 use Rattle.nob_model_history.specs.Transit.{sent}
 use Rattle.nob_model.specs.Right.{own_ref}
-use Rattle.nob_model_journal.specs.Journals.{deeds_at, sent_to, acted_from}
+use Rattle.nob_model_journal.specs.Journals.{deeds_at, sent_in, acted_in, acted_during}
 use Rattle.nob_model_journal.specs.Fronts.{Fronts, ActsInOrder, ActsWhileOpen, SendsWhileOpen, with_numbers}
 use Rattle.nob_model_journal.specs.Safety.{can_use, has_open_copy, is_open_copy, reaches_owner, NoneNeeds, WithdrawsUnneeded, SafeWithdraw}
 use Rattle.nob_model_journal.specs.Losses.{is_loss, is_excuse, sources, LosesExcused, NoFalseLoss}
+use Rattle.nob_model_journal.specs.declared.losses.Source.{Source}
 use Rattle.nob_model_journal.specs.Findings.{is_fault_found, Found}
-use Rattle.nob_model_journal.specs.Tests.{spaces_in, senders_in, same_item, is_front, acts_while_open, sends_while_open, has_fronts, keeps_fronts, needs, is_unneeded, withdraws_safely, reps_at_risk, is_excused, is_lossless, excuses_losses, finds_all}
+use Rattle.nob_model_journal.specs.Tests.{spaces_in, sessions_in, same_item, is_front, acts_while_open, sends_while_open, has_fronts, keeps_fronts, needs, is_unneeded, withdraws_safely, reps_at_risk, is_excused, is_lossless, excuses_losses, finds_all}
 use Rattle.nob_model_journal.proofs.Sameness.{item_is, item_self}
-use Rattle.nob_model_journal.proofs.Looking.{is_in, all_of, of_space, of_rep, all_decides, each_decides, no_deed, no_item}
+use Rattle.nob_model_journal.proofs.Looking.{is_in, is_session_in, all_of, of_space, of_session, of_rep, all_decides, each_decides, no_deed, no_item}
 
 -- ---- fronts
 
@@ -97,30 +98,34 @@ sends_decides s n (deed ∷ D) =
 
 -- the fronts of one space
 pub record FrontsOf (n : ℕ) (J : List Entry) (b : ℕ) : Type 0 where
-  pub order : (a : ℕ) → ActsInOrder n a b J
+  pub order : (a k : ℕ) → ActsInOrder n a b k J
   pub acts : ActsWhileOpen (deeds_at b J)
   pub sends : SendsWhileOpen b n (deeds_at b J)
 
-in_order : (n a b : ℕ) (J : List Entry) → list_all (λ x. is_front 1 (acted_from x b J) (sent_to n x b J)) (senders_in (deeds_at b J)) ≡ true → ActsInOrder n a b J
-in_order n a b J all = by (is_in a (senders_in (deeds_at b J))) refl
+-- whether what space b acted on in a session is a front of what was sent to it in it
+abbrev is_session_front : (n b : ℕ) → List Entry → ℕ × ℕ → Bool
+is_session_front n b J session = is_front 1 (acted_in session.0 b session.1 J) (sent_in n session.0 b session.1 J)
+
+in_order : (n a b k : ℕ) (J : List Entry) → list_all (is_session_front n b J) (sessions_in (deeds_at b J)) ≡ true → ActsInOrder n a b k J
+in_order n a b k J all = by (is_session_in a k (sessions_in (deeds_at b J))) refl
   where
-    by : (t : Bool) → is_in a (senders_in (deeds_at b J)) ≡ t → ActsInOrder n a b J
-    by true there = front_is 1 (acted_from a b J) (sent_to n a b J) (of_space (λ x. is_front 1 (acted_from x b J) (sent_to n x b J)) a (senders_in (deeds_at b J)) all there)
-    by false none = subst (λ (xs : List (ℕ × Option Item)). IsBeginning xs (with_numbers 1 (sent_to n a b J))) (sym (no_item a (deeds_at b J) none)) (with_numbers 1 (sent_to n a b J), refl)
+    by : (t : Bool) → is_session_in a k (sessions_in (deeds_at b J)) ≡ t → ActsInOrder n a b k J
+    by true there = front_is 1 (acted_in a b k J) (sent_in n a b k J) (of_session (is_session_front n b J) a k (sessions_in (deeds_at b J)) all there)
+    by false none = subst (λ (xs : List (ℕ × Option Item)). IsBeginning xs (with_numbers 1 (sent_in n a b k J))) (sym (no_item a k (deeds_at b J) none)) (with_numbers 1 (sent_in n a b k J), refl)
 
 fronts_of : (n : ℕ) (J : List Entry) (b : ℕ) → has_fronts n J b ≡ true → FrontsOf n J b
 fronts_of n J b h =
-    let last = and_parts (list_all (λ x. is_front 1 (acted_from x b J) (sent_to n x b J)) (senders_in (deeds_at b J)) && acts_while_open (deeds_at b J)) (sends_while_open (deeds_at b J) (all_gifts b n (deeds_at b J))) h in
-    let first = and_parts (list_all (λ x. is_front 1 (acted_from x b J) (sent_to n x b J)) (senders_in (deeds_at b J))) (acts_while_open (deeds_at b J)) last.0 in
+    let last = and_parts (list_all (is_session_front n b J) (sessions_in (deeds_at b J)) && acts_while_open (deeds_at b J)) (sends_while_open (deeds_at b J) (all_gifts b n (deeds_at b J))) h in
+    let first = and_parts (list_all (is_session_front n b J) (sessions_in (deeds_at b J))) (acts_while_open (deeds_at b J)) last.0 in
     record {
-      order = λ a. in_order n a b J first.0;
+      order = λ a k. in_order n a b k J first.0;
       acts = (acts_decides (deeds_at b J)).0 first.1;
       sends = (sends_decides b n (deeds_at b J)).0 last.1;
     }
 
 no_fronts : (n : ℕ) (J : List Entry) (b : ℕ) → deeds_at b J ≡ [] → FrontsOf n J b
 no_fronts n J b none = record {
-  order = λ a. subst (λ (D : List Deed). IsBeginning (acted a D) (with_numbers 1 (sent_to n a b J))) (sym none) (with_numbers 1 (sent_to n a b J), refl);
+  order = λ a k. subst (λ (D : List Deed). IsBeginning (acted_during a k D) (with_numbers 1 (sent_in n a b k J))) (sym none) (with_numbers 1 (sent_in n a b k J), refl);
   acts = subst ActsWhileOpen (sym none) tt;
   sends = subst (SendsWhileOpen b n) (sym none) tt;
 }
@@ -134,8 +139,8 @@ all_fronts n J h b = by (is_in b (spaces_in J)) refl
 
 pub fronts_decides : (n : ℕ) (J : List Entry) → Decides (keeps_fronts n J) (Fronts n J)
 fronts_decides n J = (
-  λ h. record { order = λ a b. (all_fronts n J h b).order a; acts = λ s. (all_fronts n J h s).acts; sends = λ s. (all_fronts n J h s).sends },
-  λ f. all_of (has_fronts n J) (spaces_in J) (λ b. and_from _ _ (and_from _ _ (all_of _ (senders_in (deeds_at b J)) (λ a. is_the_front 1 (acted_from a b J) (sent_to n a b J) (f.order a b))) ((acts_decides (deeds_at b J)).1 (f.acts b))) ((sends_decides b n (deeds_at b J)).1 (f.sends b))),
+  λ h. record { order = λ a b k. (all_fronts n J h b).order a k; acts = λ s. (all_fronts n J h s).acts; sends = λ s. (all_fronts n J h s).sends },
+  λ f. all_of (has_fronts n J) (spaces_in J) (λ b. and_from _ _ (and_from _ _ (all_of (is_session_front n b J) (sessions_in (deeds_at b J)) (λ session. is_the_front 1 (acted_in session.0 b session.1 J) (sent_in n session.0 b session.1 J) (f.order session.0 b session.1))) ((acts_decides (deeds_at b J)).1 (f.acts b))) ((sends_decides b n (deeds_at b J)).1 (f.sends b))),
 )
 
 -- ---- withdrawals
@@ -192,14 +197,14 @@ at_risk s n p rep _ D h = absurd (true≢false (sym h))
 
 -- the sources of a reference that is lost there excuse it
 abbrev pub AreExcuses : (n s p k : ℕ) → List Entry → WireRep → Type 0
-AreExcuses n s p k J rep = AllByRecursion (λ a. is_excuse s rep J a ≡ true) (sources s n rep (Act p k ∷ deeds_at s J))
+AreExcuses n s p k J rep = AllByRecursion (λ (source : Source). is_excuse n s rep J source ≡ true) (sources s n rep (Act p k ∷ deeds_at s J))
 
 -- what a deed loses is excused
 abbrev pub IsLossless : (n s : ℕ) → Option Deed → List Entry → Type 0
 IsLossless n s deed J = (p k : ℕ) (rep : WireRep) → deed ≡ Some (Act p k) → is_loss s n p rep (item_at p k (deeds_at s J)) (deeds_at s J) ≡ true → AreExcuses n s p k J rep
 
-excuses_decides : (n s p k : ℕ) (J : List Entry) (rep : WireRep) → Decides (list_all (is_excuse s rep J) (sources s n rep (Act p k ∷ deeds_at s J))) (AreExcuses n s p k J rep)
-excuses_decides n s p k J rep = all_decides (is_excuse s rep J) (λ a. is_excuse s rep J a ≡ true) (λ a. (λ h. h, λ h. h)) (sources s n rep (Act p k ∷ deeds_at s J))
+excuses_decides : (n s p k : ℕ) (J : List Entry) (rep : WireRep) → Decides (list_all (is_excuse n s rep J) (sources s n rep (Act p k ∷ deeds_at s J))) (AreExcuses n s p k J rep)
+excuses_decides n s p k J rep = all_decides (is_excuse n s rep J) (λ (source : Source). is_excuse n s rep J source ≡ true) (λ source. (λ h. h, λ h. h)) (sources s n rep (Act p k ∷ deeds_at s J))
 
 if_lost : (lost all : Bool) → (not lost || all) ≡ true → lost ≡ true → all ≡ true
 if_lost true all h is = h

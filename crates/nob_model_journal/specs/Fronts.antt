@@ -10,16 +10,16 @@ use Rattle.nob_model_types.specs.declared.deed.Deed.{Deed}
 use Rattle.nob_model_types.specs.declared.deed.Deed.TheVariants.{Act}
 use Rattle.nob_model_work.specs.Work.{work}
 use Rattle.nob_model_work.specs.Gifts.{gifts}
-use Rattle.nob_model_journal.specs.Journals.{deeds_at, sent_to, acted_from}
+use Rattle.nob_model_journal.specs.Journals.{deeds_at, sent_in, acted_in}
 
 -- items with their numbers, from k on
 abbrev pub with_numbers : ℕ → List Item → List (ℕ × Option Item)
 with_numbers k [] = []
 with_numbers k (item ∷ items) = (k, Some item) ∷ with_numbers (k + 1) items
 
--- what b acted on from a is a gapless front of what a sent to b
-abbrev pub ActsInOrder : (n a b : ℕ) → List Entry → Type 0
-ActsInOrder n a b J = IsBeginning (acted_from a b J) (with_numbers 1 (sent_to n a b J))
+-- what b acted on from a in session k is a gapless front of what a sent to b in it
+abbrev pub ActsInOrder : (n a b k : ℕ) → List Entry → Type 0
+ActsInOrder n a b k J = IsBeginning (acted_in a b k J) (with_numbers 1 (sent_in n a b k J))
 
 -- nothing is acted on after the session with its sender closed
 abbrev pub ActsWhileOpen : List Deed → Type 0
@@ -34,6 +34,6 @@ SendsWhileOpen s n (deed ∷ D) = AllByRecursion (λ gift. closed gift.to D ≡ 
 
 -- the fronts of a journal of n spaces
 pub record Fronts (n : ℕ) (J : List Entry) : Type 0 where
-  pub order : (a b : ℕ) → ActsInOrder n a b J
+  pub order : (a b k : ℕ) → ActsInOrder n a b k J
   pub acts : (s : ℕ) → ActsWhileOpen (deeds_at s J)
   pub sends : (s : ℕ) → SendsWhileOpen s n (deeds_at s J)

@@ -1,15 +1,15 @@
 -- The journal of all spaces: what was asked of each of them and what it answered. The newest entry stands FIRST. What
 -- one space did is read off its own entries alone; what is said of several spaces is said by the words of each.
-use Rattle.std.specs.Prelude.{⊤, ℕ, Bool, ◌&&◌, not, ◌==◌, List, [], ◌∷◌, ◌++◌, map, filter, Option, Some}
+use Rattle.std.specs.Prelude.{⊤, ℕ, Bool, ◌&&◌, not, ◌==◌, List, [], ◌∷◌, ◌++◌, map, filter, Option, Some, if◌then◌else◌}
 use Rattle.nob_frame.specs.declared.frame.Frame.{Frame}
 use Rattle.nob_item.specs.declared.item.Item.{Item}
 use Rattle.nob_model_types.specs.declared.entry.Entry.{Entry}
 use Rattle.nob_model_types.specs.Deeds.{deed_in, deeds}
-use Rattle.nob_model_types.specs.Sessions.{closed, acted}
+use Rattle.nob_model_types.specs.Sessions.{closed, number, acted, item_at}
 use Rattle.nob_model_types.specs.declared.deed.Deed.{Deed}
-use Rattle.nob_model_types.specs.declared.deed.Deed.TheVariants.{Transmit}
+use Rattle.nob_model_types.specs.declared.deed.Deed.TheVariants.{Act, Transmit}
 use Rattle.nob_model_history.specs.Histories.{history_of}
-use Rattle.nob_model_history.specs.Transit.{sent}
+use Rattle.nob_model_history.specs.Transit.{is_sent_to, sent}
 use Rattle.nob_model_history.specs.declared.history.History.{History}
 
 -- the entries of space s
@@ -24,11 +24,33 @@ deeds_at s J = deeds (at s J)
 abbrev pub history_at : (s n : ℕ) → List Entry → History
 history_at s n J = history_of s n (deeds_at s J)
 
--- the items that space a among n sent to b, the first first: their numbers are 1, 2, ..
-abbrev pub sent_to : (n a b : ℕ) → List Entry → List Item
-sent_to n a b J = map (λ sent_item. sent_item.item) (filter (λ sent_item. sent_item.to == b) (sent (history_at a n J)))
+-- the number of the session with b in which space a is
+abbrev pub number_at : (a b : ℕ) → List Entry → ℕ
+number_at a b J = number b (deeds_at a J)
 
--- the items from a that b acted on, with the numbers that were answered, the first first
+-- the items that space a among n sent to b in session k, the first first: their numbers are 1, 2, ..
+abbrev pub sent_in : (n a b k : ℕ) → List Entry → List Item
+sent_in n a b k J = map (λ sent_item. sent_item.item) (filter (is_sent_to b k) (sent (history_at a n J)))
+
+-- those of the session in which a itself is
+abbrev pub sent_now : (n a b : ℕ) → List Entry → List Item
+sent_now n a b J = sent_in n a b (number_at a b J) J
+
+-- those of the session in which b is: what b may act on
+abbrev pub sent_to : (n a b : ℕ) → List Entry → List Item
+sent_to n a b J = sent_in n a b (number_at b a J) J
+
+-- the items from p that were acted on in session k, with the numbers that were answered, the first first
+abbrev pub acted_during : (p k : ℕ) → List Deed → List (ℕ × Option Item)
+acted_during p k [] = []
+acted_during p k (Act q j ∷ D) = if q == p && number p D == k then acted_during p k D ++ (j, item_at p j D) ∷ [] else acted_during p k D
+acted_during p k (_ ∷ D) = acted_during p k D
+
+-- the items from a that b acted on in session k
+abbrev pub acted_in : (a b k : ℕ) → List Entry → List (ℕ × Option Item)
+acted_in a b k J = acted_during a k (deeds_at b J)
+
+-- the items from a that b acted on in the session in which it is
 abbrev pub acted_from : (a b : ℕ) → List Entry → List (ℕ × Option Item)
 acted_from a b J = acted a (deeds_at b J)
 
@@ -36,9 +58,13 @@ acted_from a b J = acted a (deeds_at b J)
 abbrev pub closed_at : (a b : ℕ) → List Entry → Bool
 closed_at a b J = closed b (deeds_at a J)
 
--- whether the session of a and b is open at both ends
+-- whether a and b are in sessions of one number with each other
+abbrev pub are_in_one : (a b : ℕ) → List Entry → Bool
+are_in_one a b J = number_at a b J == number_at b a J
+
+-- whether the session of a and b is open: both are in it, and neither has closed it
 abbrev pub both_open : (a b : ℕ) → List Entry → Bool
-both_open a b J = not (closed_at a b J) && not (closed_at b a J)
+both_open a b J = are_in_one a b J && (not (closed_at a b J) && not (closed_at b a J))
 
 -- the frames that a deed gave
 abbrev pub frames_of : Option Deed → List Frame

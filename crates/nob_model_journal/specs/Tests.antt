@@ -8,13 +8,13 @@ use Rattle.nob_item.specs.declared.item.Item.TheVariants as items
 use Rattle.nob_model_types.specs.declared.entry.Entry.{Entry}
 use Rattle.nob_model_types.specs.Deeds.{deed_in}
 use Rattle.nob_model_types.specs.Same.{same_value}
-use Rattle.nob_model_types.specs.Sessions.{closed, item_at}
+use Rattle.nob_model_types.specs.Sessions.{closed, number, item_at}
 use Rattle.nob_model_types.specs.declared.deed.Deed.{Deed}
 use Rattle.nob_model_types.specs.declared.deed.Deed.TheVariants.{Act, Withdraw}
 use Rattle.nob_model_work.specs.Gifts.{all_gifts}
 use Rattle.nob_model_work.specs.declared.gifts.Gift.{Gift}
 use Rattle.nob_model.specs.Right.{own_ref}
-use Rattle.nob_model_journal.specs.Journals.{deeds_at, sent_to, acted_from}
+use Rattle.nob_model_journal.specs.Journals.{deeds_at, sent_in, acted_in}
 use Rattle.nob_model_journal.specs.Safety.{can_use, has_open_copy}
 use Rattle.nob_model_journal.specs.Losses.{is_loss, is_excuse, sources}
 use Rattle.nob_model_journal.specs.Findings.{is_fault_found}
@@ -28,11 +28,15 @@ abbrev pub spaces_in : List Entry → List ℕ
 spaces_in [] = []
 spaces_in (entry ∷ J) = with_space entry.space (spaces_in J)
 
--- the spaces whose items were acted on, each once
-abbrev pub senders_in : List Deed → List ℕ
-senders_in [] = []
-senders_in (Act p k ∷ D) = with_space p (senders_in D)
-senders_in (_ ∷ D) = senders_in D
+-- sessions with one more, unless it is one of them: each a peer with the number of the session with it
+abbrev pub with_session : (p k : ℕ) → List (ℕ × ℕ) → List (ℕ × ℕ)
+with_session p k sessions = if list_any (λ other. other.0 == p && other.1 == k) sessions then sessions else (p, k) ∷ sessions
+
+-- the sessions in which items were acted on, each once
+abbrev pub sessions_in : List Deed → List (ℕ × ℕ)
+sessions_in [] = []
+sessions_in (Act p k ∷ D) = with_session p (number p D) (sessions_in D)
+sessions_in (_ ∷ D) = sessions_in D
 
 -- whether a test holds of each entry of a journal and the entries before it
 abbrev pub each : (Entry → List Entry → Bool) → List Entry → Bool
@@ -69,9 +73,9 @@ sends_while_open [] G = true
 sends_while_open (deed ∷ D) [] = true
 sends_while_open (deed ∷ D) (gifts ∷ G) = list_all (λ gift. not (closed gift.to D)) gifts && sends_while_open D G
 
--- whether the fronts of space b are as they should be: of what it acted on from each sender, and of when it acted and sent
+-- whether the fronts of space b are as they should be: of what it acted on in each session, and of when it acted and sent
 abbrev pub has_fronts : ℕ → List Entry → ℕ → Bool
-has_fronts n J b = list_all (λ a. is_front 1 (acted_from a b J) (sent_to n a b J)) (senders_in (deeds_at b J)) && acts_while_open (deeds_at b J) && sends_while_open (deeds_at b J) (all_gifts b n (deeds_at b J))
+has_fronts n J b = list_all (λ session. is_front 1 (acted_in session.0 b session.1 J) (sent_in n session.0 b session.1 J)) (sessions_in (deeds_at b J)) && acts_while_open (deeds_at b J) && sends_while_open (deeds_at b J) (all_gifts b n (deeds_at b J))
 
 -- whether all fronts are
 abbrev pub keeps_fronts : ℕ → List Entry → Bool
@@ -103,7 +107,7 @@ reps_at_risk p (Some (items.Clean index)) = []
 
 -- whether a reference isn't lost where space s acts on item k from p, or is with an excuse for each copy
 abbrev pub is_excused : (n s p k : ℕ) → List Entry → WireRep → Bool
-is_excused n s p k J rep = not (is_loss s n p rep (item_at p k (deeds_at s J)) (deeds_at s J)) || list_all (is_excuse s rep J) (sources s n rep (Act p k ∷ deeds_at s J))
+is_excused n s p k J rep = not (is_loss s n p rep (item_at p k (deeds_at s J)) (deeds_at s J)) || list_all (is_excuse n s rep J) (sources s n rep (Act p k ∷ deeds_at s J))
 
 -- whether each reference that is lost by a deed of space s is excused
 abbrev pub is_lossless : (n s : ℕ) → Option Deed → List Entry → Bool

@@ -6,7 +6,7 @@ ghost use Rattle.nob_model_types.specs.Sessions.{closed as closed_word};
 ghost use Rattle.nob_model_journal.specs.Journals as words;
 ghost use Rattle.nob_model_journal.specs.Tests as tests;
 
-use crate::journals::{acted_from, history_at, senders_in, sent_to, spaces_in};
+use crate::journals::{acted_in, history_at, sent_in, sessions_in, spaces_in};
 use crate::same::same_item;
 use nob_ids::{ItemNo, SpaceId};
 use nob_item::Item;
@@ -33,41 +33,44 @@ fn is_front(number: u64, acted_on: &[(ItemNo, Option<Item>)], items: &[Item]) ->
     }
 }
 
-// Whether what a space acted on from a sender is a front of what was sent to it.
+// Whether what a space acted on from a sender in a session is a front of what was sent to it in it.
 fn is_in_order(
     alloc: Global,
     sender: &Here,
     space: SpaceId,
+    session: u32,
     journal: &[Entry],
 ) -> Result<bool, AllocError>
     ensures { IfOk result (λ answer. answer
-        ≡ tests.is_front 1 (words.acted_from sender.now.space space journal.now)
-        (words.sent_to sender.now.n sender.now.space space journal.now)) }
+        ≡ tests.is_front 1 (words.acted_in sender.now.space space session journal.now)
+        (words.sent_in sender.now.n sender.now.space space session journal.now)) }
 {
-    let acted_on = acted_from(alloc, sender.space, space, journal)?;
-    let items = sent_to(alloc, sender, space, journal)?;
+    let acted_on = acted_in(alloc, sender.space, space, session, journal)?;
+    let items = sent_in(alloc, sender, space, session, journal)?;
     Ok(is_front(1, acted_on.as_slice(), items.as_slice()))
 }
 
-// Whether what a space acted on from each of these senders is a front of what was sent to it.
+// Whether what a space acted on in each of these sessions is a front of what was sent to it in it.
 fn are_in_order(
     alloc: Global,
     here: &Here,
-    senders: &[SpaceId],
+    sessions: &[(SpaceId, u32)],
     journal: &[Entry],
 ) -> Result<bool, AllocError>
     ensures { IfOk result (λ answer. answer
-        ≡ list_all (λ a. tests.is_front 1 (words.acted_from a here.now.space journal.now)
-        (words.sent_to here.now.n a here.now.space journal.now)) senders.now) }
+        ≡ list_all (λ session. tests.is_front 1
+        (words.acted_in session.0 here.now.space session.1 journal.now)
+        (words.sent_in here.now.n session.0 here.now.space session.1 journal.now))
+        sessions.now) }
 {
-    match senders {
+    match sessions {
         [] => Ok(true),
-        [sender, others @ ..] => {
+        [(sender, session), others @ ..] => {
             let from = Here {
                 space: *sender,
                 n: here.n,
             };
-            if !is_in_order(alloc, &from, here.space, journal)? {
+            if !is_in_order(alloc, &from, here.space, *session, journal)? {
                 return Ok(false);
             }
             are_in_order(alloc, here, others, journal)
@@ -119,8 +122,8 @@ fn has_fronts(alloc: Global, here: &Here, journal: &[Entry]) -> Result<bool, All
         ≡ tests.has_fronts here.now.n journal.now here.now.space) }
 {
     let history = history_at(alloc, here, journal)?;
-    let senders = senders_in(alloc, history.deeds.as_slice())?;
-    if !are_in_order(alloc, here, senders.as_slice(), journal)? {
+    let sessions = sessions_in(alloc, history.deeds.as_slice())?;
+    if !are_in_order(alloc, here, sessions.as_slice(), journal)? {
         return Ok(false);
     }
     if !acts_while_open(history.deeds.as_slice()) {

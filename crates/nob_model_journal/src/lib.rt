@@ -14,6 +14,7 @@ pub mod safety;
 mod same;
 mod verdict;
 
+pub use losses::Source;
 pub use promises::verdict_of;
 pub use same::same_item;
 pub use verdict::{Promise, Verdict};

@@ -1,19 +1,34 @@
 //! No reference is lost without a cause.
 
-ghost use Rattle.std.specs.Prelude.{◌≡◌, ◌∷◌, ◌||◌, ◌&&◌, not, IfOk, Some};
+ghost use Rattle.std.specs.Prelude.{◌≡◌, ◌∷◌, ◌||◌, ◌&&◌, not, IfOk, Some, find};
 ghost use Rattle.std.specs.List.{list_all};
+ghost use Rattle.std.specs.Option.{option_map};
 ghost use Rattle.nob_ids.specs.Names.{is_same};
 ghost use Rattle.nob_model_types.specs.Sessions.{item_at};
 ghost use Rattle.nob_model_types.specs.Turns.{turns as turns_word};
-ghost use Rattle.nob_model_journal.specs.Journals.{deeds_at as deeds_word};
+ghost use Rattle.nob_model_history.specs.Transit.{sent};
+ghost use Rattle.nob_model_journal.specs.Journals.{deeds_at as deeds_word, history_at as history_word};
 ghost use Rattle.nob_model_journal.specs.Losses as words;
 ghost use Rattle.nob_model_journal.specs.Tests as tests;
 
-use crate::journals::{both_open, deeds_at};
+use crate::journals::{both_open, deeds_at, history_at, number_at};
+use crate::safety::is_with_owner;
 use nob_ids::{ItemNo, SpaceId, WireRep};
 use nob_item::Item;
+use nob_model_history::{SentItem, transit};
 use nob_model_types::{Deed, Entry, Here, sessions, turns};
 use std::alloc::{AllocError, Global};
+
+/// Where a copy of a reference came from.
+#[derive(Clone, Copy, Debug, PartialEq, Eq)]
+pub struct Source {
+    /// The space that sent it.
+    pub from: SpaceId,
+    /// The number of the session in which it came.
+    pub session: u32,
+    /// The number of the item in which it came.
+    pub number: ItemNo,
+}
 
 // Whether an item, where there is one, carries a reference.
 fn is_carried(alloc: Global, rep: &WireRep, item: &Option<Item>) -> Result<bool, AllocError>
@@ -43,26 +58,35 @@ fn is_given_up(
     Ok(turns::turns_of(alloc, here, rep, deeds)?.asks)
 }
 
-// The spaces from which came the copies of a reference that a space acted on since it last sent a
-// Clean for it.
+// The copies of a reference that a space acted on since it last sent a Clean for it.
 fn sources(
     alloc: Global,
     here: &Here,
     rep: &WireRep,
     deeds: &[Deed],
-) -> Result<Vec<SpaceId>, AllocError>
-    ensures { IfOk result (λ spaces. spaces.items
+) -> Result<Vec<Source>, AllocError>
+    ensures { IfOk result (λ copies. copies.items
         ≡ words.sources here.now.space here.now.n rep.now deeds.now) }
 {
     match deeds {
         [] => Ok(Vec::new(alloc)),
         [Deed::Act(from, number), older @ ..] => {
-            let mut spaces = sources(alloc, here, rep, older)?;
+            let mut copies = sources(alloc, here, rep, older)?;
             let item = sessions::item_at(alloc, *from, *number, older)?;
             if is_carried(alloc, rep, &item)? {
-                spaces.insert(0, *from)?;
+                let from = *from;
+                let number = *number;
+                let session = sessions::number(from, older);
+                copies.insert(
+                    0,
+                    Source {
+                        from,
+                        session,
+                        number,
+                    },
+                )?;
             }
-            Ok(spaces)
+            Ok(copies)
         }
         [Deed::Clean(cleaned), older @ ..] => {
             if is_given_up(alloc, here, rep, cleaned, older)? {
@@ -101,49 +125,110 @@ fn is_loss(
     }
 }
 
-// Whether the loss of a reference at a space is excused by a copy that came from this one.
-fn is_excuse(
-    alloc: Global,
+// The item in which a copy came to a space, where it is among what was sent.
+fn sent_source<'a>(
     space: SpaceId,
+    source: &Source,
+    sent_items: &'a [SentItem],
+) -> Option<&'a SentItem>
+    ensures { option_map (λ sent_item. sent_item.now) result
+        ≡ find (words.is_source space source.now) sent_items.now }
+{
+    sent_items.iter().find(|sent_item| {
+        sent_item.to == space
+            && sent_item.session == source.session
+            && sent_item.number == source.number
+    })
+}
+
+// Whether the sender of a copy is still in the session with the owner in which it sent it.
+fn was_with_owner(
+    alloc: Global,
+    here: &Here,
     rep: &WireRep,
     journal: &[Entry],
-    source: SpaceId,
+    source: &Source,
 ) -> Result<bool, AllocError>
-    ensures { IfOk result (λ answer. answer ≡ words.is_excuse space rep.now journal.now source) }
+    ensures { IfOk result (λ answer. answer
+        ≡ words.was_with_owner source.now.from rep.now journal.now
+        (find (words.is_source here.now.space source.now)
+        (sent (history_word source.now.from here.now.n journal.now)))) }
 {
-    if rep.owner == source {
+    let sender = Here {
+        space: source.from,
+        n: here.n,
+    };
+    let history = history_at(alloc, &sender, journal)?;
+    let sent_items = transit::sent(alloc, &history)?;
+    match sent_source(here.space, source, sent_items.as_slice()) {
+        Some(sent_item) => is_with_owner(alloc, source.from, rep, journal, sent_item),
+        None => Ok(true),
+    }
+}
+
+// Whether the sessions in which a copy came to a space, and in which it was sent, are open.
+fn is_open_source(
+    alloc: Global,
+    here: &Here,
+    rep: &WireRep,
+    journal: &[Entry],
+    source: &Source,
+) -> Result<bool, AllocError>
+    ensures { IfOk result (λ answer. answer
+        ≡ words.is_open_source here.now.n here.now.space rep.now journal.now source.now) }
+{
+    if source.session != number_at(alloc, source.from, here.space, journal)? {
         return Ok(false);
     }
-    if !both_open(alloc, source, space, journal)? {
-        return Ok(true);
+    if !both_open(alloc, source.from, here.space, journal)? {
+        return Ok(false);
     }
-    Ok(!both_open(alloc, source, rep.owner, journal)?)
+    if !was_with_owner(alloc, here, rep, journal, source)? {
+        return Ok(false);
+    }
+    both_open(alloc, source.from, rep.owner, journal)
+}
+
+// Whether the loss of a reference at a space is excused by a copy that came.
+fn is_excuse(
+    alloc: Global,
+    here: &Here,
+    rep: &WireRep,
+    journal: &[Entry],
+    source: &Source,
+) -> Result<bool, AllocError>
+    ensures { IfOk result (λ answer. answer
+        ≡ words.is_excuse here.now.n here.now.space rep.now journal.now source.now) }
+{
+    if rep.owner == source.from {
+        return Ok(false);
+    }
+    Ok(!is_open_source(alloc, here, rep, journal, source)?)
 }
 
 // Whether each of these sources excuses the loss of a reference at a space.
 fn are_excuses(
     alloc: Global,
-    space: SpaceId,
+    here: &Here,
     rep: &WireRep,
     journal: &[Entry],
-    all: &[SpaceId],
+    all: &[Source],
 ) -> Result<bool, AllocError>
     ensures { IfOk result (λ answer. answer
-        ≡ list_all (words.is_excuse space rep.now journal.now) all.now) }
+        ≡ list_all (words.is_excuse here.now.n here.now.space rep.now journal.now) all.now) }
 {
     match all {
         [] => Ok(true),
         [source, others @ ..] => {
-            if !is_excuse(alloc, space, rep, journal, *source)? {
+            if !is_excuse(alloc, here, rep, journal, source)? {
                 return Ok(false);
             }
-            are_excuses(alloc, space, rep, journal, others)
+            are_excuses(alloc, here, rep, journal, others)
         }
     }
 }
 
-// The spaces from which copies of a reference came, where the item of this number is acted on after
-// these deeds.
+// The copies of a reference that came, where the item of this number is acted on after these deeds.
 fn sources_with(
     alloc: Global,
     here: &Here,
@@ -151,16 +236,24 @@ fn sources_with(
     number: ItemNo,
     rep: &WireRep,
     deeds: &[Deed],
-) -> Result<Vec<SpaceId>, AllocError>
-    ensures { IfOk result (λ spaces. spaces.items
+) -> Result<Vec<Source>, AllocError>
+    ensures { IfOk result (λ copies. copies.items
         ≡ words.sources here.now.space here.now.n rep.now (Deed.Act from number ∷ deeds.now)) }
 {
-    let mut spaces = sources(alloc, here, rep, deeds)?;
+    let mut copies = sources(alloc, here, rep, deeds)?;
     let item = sessions::item_at(alloc, from, number, deeds)?;
     if is_carried(alloc, rep, &item)? {
-        spaces.insert(0, from)?;
+        let session = sessions::number(from, deeds);
+        copies.insert(
+            0,
+            Source {
+                from,
+                session,
+                number,
+            },
+        )?;
     }
-    Ok(spaces)
+    Ok(copies)
 }
 
 // Whether a reference isn't lost where a space acts on an item, or is with an excuse for each copy.
@@ -181,7 +274,7 @@ fn is_excused(
         return Ok(true);
     }
     let all = sources_with(alloc, here, from, number, rep, deeds.as_slice())?;
-    are_excuses(alloc, here.space, rep, journal, all.as_slice())
+    are_excuses(alloc, here, rep, journal, all.as_slice())
 }
 
 // Whether each of these references isn't lost there, or is with an excuse for each copy.

@@ -7,7 +7,7 @@ ghost use Rattle.nob_model_types.specs.Deeds.{deed_in};
 ghost use Rattle.nob_model_journal.specs.Safety as words;
 ghost use Rattle.nob_model_journal.specs.Tests as tests;
 
-use crate::journals::{both_open, deeds_at, history_at, spaces_in};
+use crate::journals::{both_open, deeds_at, history_at, number_at, spaces_in};
 use nob_ids::{SpaceId, WireRep};
 use nob_model_history::{History, SentItem, holds, transit};
 use nob_model_types::{Deed, Entry, Here, turns};
@@ -74,6 +74,48 @@ fn is_in_transit(
     Ok(!transit::is_settled(alloc, sent_item.to, sent_item.number, deeds.as_slice())?)
 }
 
+/// Whether a space is the owner of a reference, or still in the session with the owner in which it
+/// sent an item with it.
+pub fn is_with_owner(
+    alloc: Global,
+    sender: SpaceId,
+    rep: &WireRep,
+    journal: &[Entry],
+    sent_item: &SentItem,
+) -> Result<bool, AllocError>
+    ensures { IfOk result (λ answer. answer
+        ≡ words.is_with_owner sender rep.now journal.now sent_item.now) }
+{
+    if rep.owner == sender {
+        return Ok(true);
+    }
+    let session = transit::owner_session(alloc, rep, sent_item)?;
+    Ok(session == number_at(alloc, sender, rep.owner, journal)?)
+}
+
+// Whether the sessions in which a space sent an item with a reference are open.
+fn is_open_for(
+    alloc: Global,
+    sender: SpaceId,
+    rep: &WireRep,
+    journal: &[Entry],
+    sent_item: &SentItem,
+) -> Result<bool, AllocError>
+    ensures { IfOk result (λ answer. answer
+        ≡ words.is_open_for sender rep.now journal.now sent_item.now) }
+{
+    if sent_item.session != number_at(alloc, sender, sent_item.to, journal)? {
+        return Ok(false);
+    }
+    if !both_open(alloc, sender, sent_item.to, journal)? {
+        return Ok(false);
+    }
+    if !is_with_owner(alloc, sender, rep, journal, sent_item)? {
+        return Ok(false);
+    }
+    reaches_owner(alloc, sender, rep, journal)
+}
+
 // Whether what a space sent carries a reference in open transit.
 fn is_open_copy(
     alloc: Global,
@@ -91,10 +133,7 @@ fn is_open_copy(
     if !is_in_transit(alloc, sender, sent_item, journal)? {
         return Ok(false);
     }
-    if !both_open(alloc, sender, sent_item.to, journal)? {
-        return Ok(false);
-    }
-    reaches_owner(alloc, sender, rep, journal)
+    is_open_for(alloc, sender, rep, journal, sent_item)
 }
 
 // Whether one of these items that a space sent carries a reference in open transit.

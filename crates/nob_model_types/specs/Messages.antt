@@ -7,6 +7,7 @@ use Rattle.nob_item.specs.declared.item.Item.{Item}
 use Rattle.nob_item.specs.declared.item.Item.TheVariants as items
 use Rattle.nob_model_types.specs.declared.answer.Job.{Job}
 use Rattle.nob_model_types.specs.declared.deed.Deed.{Deed}
+use Rattle.nob_model_types.specs.Sessions.{number}
 use Rattle.nob_model_types.specs.Turns.{is_own, is_usable, is_lost, is_resolved}
 use Rattle.nob_model_types.specs.Same.{same_value}
 use Rattle.nob_model_types.specs.declared.message.Loan.{Loan}
@@ -18,9 +19,9 @@ use Rattle.nob_model_types.specs.declared.message.Message.{Message}
 unfoldable pub new_copy : (s n : ℕ) → List Deed → WireRep → RefCopy
 new_copy s n D rep = record { rep = rep; loan = if is_lost s n rep D then loans.Never else loans.Due }
 
--- the message that came from p in item k
+-- the message that came from p in item k, in the session that is there now
 abbrev pub new_message : (s n p k : ℕ) → Item → List Deed → Message
-new_message s n p k item D = record { from = p; number = k; item = item; copies = map (λ rep. new_copy s n D rep) (counted_in item) }
+new_message s n p k item D = record { from = p; session = number p D; number = k; item = item; copies = map (λ rep. new_copy s n D rep) (counted_in item) }
 
 -- a loan that is due is made once the reference is own or usable; what is lent stays lent
 abbrev pub loan_after : Bool → Loan → Loan
@@ -34,7 +35,7 @@ copy_after s n D copy = record { rep = copy.rep; loan = loan_after (is_own s cop
 
 -- a message after a deed
 unfoldable pub message_after : (s n : ℕ) → List Deed → Message → Message
-message_after s n D message = record { from = message.from; number = message.number; item = message.item; copies = map (λ copy. copy_after s n D copy) message.copies }
+message_after s n D message = record { from = message.from; session = message.session; number = message.number; item = message.item; copies = map (λ copy. copy_after s n D copy) message.copies }
 
 -- whether a message came from p in item k
 abbrev pub is_of : (p k : ℕ) → Message → Bool

@@ -8,7 +8,7 @@ ghost use Rattle.nob_model_types.specs.Messages as words;
 use crate::deed::Deed;
 use crate::here::Here;
 use crate::same::same_value;
-use crate::{Job, turns};
+use crate::{Job, sessions, turns};
 use nob_ids::{CallNo, ItemNo, SpaceId, WireRep};
 use nob_item::Item;
 use nob_slots::List;
@@ -39,6 +39,8 @@ pub struct RefCopy {
 pub struct Message {
     /// The space that sent it.
     pub from: SpaceId,
+    /// The number of the session in which it came.
+    pub session: u32,
     /// The number of its item.
     pub number: ItemNo,
     /// The Call or the Reply.
@@ -97,6 +99,7 @@ pub fn new_message(
     let copies = new_copies(alloc, &here, deeds, reps.as_slice())?;
     Ok(Message {
         from: peer,
+        session: sessions::number(peer, deeds),
         number,
         item,
         copies: List::from_vec(copies),
@@ -168,6 +171,7 @@ pub fn message_after(
 {
     let Message {
         from,
+        session,
         number,
         item,
         copies,
@@ -176,6 +180,7 @@ pub fn message_after(
     let copies = List::from_vec(after);
     Ok(Message {
         from,
+        session,
         number,
         item,
         copies,

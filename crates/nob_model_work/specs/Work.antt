@@ -90,7 +90,7 @@ after_act s n p k D (Some item) work = after_message (new_message s n p k item (
 
 -- the Reply that stands for one with a lost reference: status 3 with unit, and nothing is lent by it
 abbrev pub lost_reply : Message → ℕ → Message
-lost_reply message call = record { from = message.from; number = message.number; item = items.Reply call 3 values.Unit; copies = [] }
+lost_reply message call = record { from = message.from; session = message.session; number = message.number; item = items.Reply call 3 values.Unit; copies = [] }
 
 -- a message that was settled, by its item: a Call is a ready job, or over if it was lost; a Reply is ready, as a lost one if it was lost
 unfoldable pub after_settlement : Message → Item → Bool → Outstanding → Outstanding

@@ -299,6 +299,7 @@ fn lost_reply(alloc: Global, message: &Message, call: CallNo) -> Message
 {
     Message {
         from: message.from,
+        session: message.session,
         number: message.number,
         item: Item::Reply {
             call,

@@ -418,6 +418,7 @@ anew_heard me peer limits L frame hears its reach empty =
     record {
       heard = hears_right me peer limits L frame hears;
       open_end = hears.open_end;
+      present = hears.present;
       is_item = its;
       in_reach = reach;
       anew = ap (λ (m : ℕ). payload m L) (sym number) ∙ some_same _ _ (sym (places_at (accepted_count L + 1) 64 (frame.seq - (accepted_count L + 1)) L (omega (arith, low, near))) ∙ there);

@@ -127,14 +127,14 @@ module _ {s n p k : ℕ} {index : ℕ} {D : List Deed} (front : IsFront s n p k 
       ∙ ap (λ (b : Bool). if b then ends.Take ∷ with_sends (map (λ (gift : Gift). gift.item) (cond b (gift_to p (dirty_answer (objects.is_live s index D) index) ∷ []) [])) (calls_at q (history_of s n D)) else with_sends (map (λ (gift : Gift). gift.item) (cond b (gift_to p (dirty_answer (objects.is_live s index D) index) ∷ []) [])) (calls_at q (history_of s n D))) other
 
   -- the answer carries nothing, so nothing is pinned
-  answer_unpinned : (live : Bool) → filter (is_pinned D) (new_items (sent (history_of s n D)) (gift_to p (dirty_answer live index) ∷ [])) ≡ []
+  answer_unpinned : (live : Bool) → filter (is_pinned D) (new_items D (sent (history_of s n D)) (gift_to p (dirty_answer live index) ∷ [])) ≡ []
   answer_unpinned true = refl
   answer_unpinned false = refl
 
   bundles_answered : transit.bundles (history_of s n (Act p k ∷ D)) ≡ transit.bundles (history_of s n D)
   bundles_answered =
-      bundles_kept s n (Act p k) D (no_settle p k D (λ j. ap (transit.is_settle_of j) there)) (λ q. refl)
-      ∙ ap (λ (more : List Gift). transit.bundles (history_of s n D) ++ filter (is_pinned D) (new_items (sent (history_of s n D)) more)) dirty_gives
+      bundles_kept s n (Act p k) D (no_settle p k D (λ j. ap (transit.is_settle_of j) there)) (λ q. refl) (λ q. refl)
+      ∙ ap (λ (more : List Gift). transit.bundles (history_of s n D) ++ filter (is_pinned D) (new_items D (sent (history_of s n D)) more)) dirty_gives
       ∙ ap (λ more. transit.bundles (history_of s n D) ++ more) (answer_unpinned (objects.is_live s index D))
       ∙ append-nil (transit.bundles (history_of s n D))
 

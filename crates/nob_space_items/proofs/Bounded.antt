@@ -1,5 +1,5 @@
 -- How many Dirties were sent and how often a reference is lent: fewer than the table can count.
-use Rattle.std.proofs.Common.{◌≡◌, ℕ, zero, suc, ◌+◌, ◌*◌, ◌≤◌, Bool, true, false, not, ◌==◌, cond, List, [], ◌∷◌, length, filter, filter_map, flat_map, option_and_then, Option, Some, None, if◌then◌else◌, refl, arith}
+use Rattle.std.proofs.Common.{◌≡◌, ℕ, zero, suc, ◌+◌, ◌*◌, ◌≤◌, Bool, true, false, not, ◌==◌, cond, List, [], ◌∷◌, length, filter, filter_map, flat_map, map, option_and_then, Option, Some, None, if◌then◌else◌, refl, sym, ap, ◌∙◌, arith}
 use Rattle.std.specs.List.{AllByRecursion, cons_option}
 use Rattle.std.proofs.lemmas.Bool.Decides.{nat_tests}
 use Rattle.std.proofs.lemmas.List.{length-append, length-map}
@@ -19,12 +19,15 @@ use Rattle.nob_model_types.specs.Sessions.{item_spelt, payload_at}
 use Rattle.nob_model_work.specs.declared.work.Outstanding.{Outstanding}
 use Rattle.nob_model_work.specs.declared.work.Run.{Run}
 use Rattle.nob_model_work.specs.Work.{work}
+use Rattle.nob_model_work.specs.Gifts.{gifts}
+use Rattle.nob_model_work.specs.declared.gifts.Gift.{Gift}
+use Rattle.nob_model_session.specs.declared.entry.EndEntry.{EndEntry}
 use Rattle.nob_model_history.specs.declared.transit.SentItem.{SentItem}
 use Rattle.nob_model_history.specs.Histories.{history_of}
-use Rattle.nob_model_history.specs.Ends.{calls_at}
+use Rattle.nob_model_history.specs.Ends.{calls_at, items_to, own_calls, payload_of, with_sends}
 use Rattle.nob_model_history.specs.Holds.{times, lent_in, loans_of, target_lent, copies_lent, is_lent}
-use Rattle.nob_model_history.specs.Transit.{asks_for, count_to, dirties, sent}
-use Rattle.nob_model_history.proofs.Numbered.{count_handed}
+use Rattle.nob_model_history.specs.Transit.{asks_for, dirties, sent, with_gifts}
+use Rattle.nob_model_history.proofs.Numbered.{items_sent_to, gifts_sent_to, own_handed, sends_handed}
 use Rattle.nob_model_acting.specs.Acting.{messages}
 use Rattle.nob_model.specs.Right.{own_ref}
 use Rattle.nob_model.proofs.Calling.{calls_law}
@@ -84,18 +87,43 @@ one_asked : (p : ℕ) (to : ℕ) (item : Item) (rest : List WireRep) (more : ℕ
 one_asked p to (items.Dirty index) rest more few = elim (to == p) as (λ b. length (cond b (record { owner = to; index = index } ∷ filter (λ (one : WireRep). one.owner == p) rest) (filter (λ (one : WireRep). one.owner == p) rest)) ≤ cond b (suc more) more) [ true ↦ omega (arith, few) | false ↦ few ]
 one_asked p to (_) rest more few = elim (to == p) as (λ b. owner_count p rest ≤ cond b (suc more) more) [ true ↦ omega (arith, few) | false ↦ few ]
 
-asked_sent : (p : ℕ) (xs : List SentItem) → owner_count p (filter_map (λ (one : SentItem). asks_for one.to one.item) xs) ≤ count_to p xs
+-- how many of these items were sent to p
+abbrev count_all : ℕ → List SentItem → ℕ
+count_all p xs = length (filter (λ (x : SentItem). x.to == p) xs)
+
+asked_sent : (p : ℕ) (xs : List SentItem) → owner_count p (filter_map (λ (one : SentItem). asks_for one.to one.item) xs) ≤ count_all p xs
 asked_sent p [] = (let low : 0 ≤ 0 = omega arith in low)
 asked_sent p (one ∷ xs) =
-    let here = one_asked p one.to one.item (filter_map (λ (x : SentItem). asks_for x.to x.item) xs) (count_to p xs) (asked_sent p xs) in
-    elim (one.to == p) as (λ b. owner_count p (cons_option (asks_for one.to one.item) (filter_map (λ (x : SentItem). asks_for x.to x.item) xs)) ≤ cond b (suc (count_to p xs)) (count_to p xs) → owner_count p (cons_option (asks_for one.to one.item) (filter_map (λ (x : SentItem). asks_for x.to x.item) xs)) ≤ length (cond b (one ∷ filter (λ (x : SentItem). x.to == p) xs) (filter (λ (x : SentItem). x.to == p) xs))) [ true ↦ λ low. low | false ↦ λ low. low ] here
+    let here = one_asked p one.to one.item (filter_map (λ (x : SentItem). asks_for x.to x.item) xs) (count_all p xs) (asked_sent p xs) in
+    elim (one.to == p) as (λ b. owner_count p (cons_option (asks_for one.to one.item) (filter_map (λ (x : SentItem). asks_for x.to x.item) xs)) ≤ cond b (suc (count_all p xs)) (count_all p xs) → owner_count p (cons_option (asks_for one.to one.item) (filter_map (λ (x : SentItem). asks_for x.to x.item) xs)) ≤ length (cond b (one ∷ filter (λ (x : SentItem). x.to == p) xs) (filter (λ (x : SentItem). x.to == p) xs))) [ true ↦ λ low. low | false ↦ λ low. low ] here
+
+-- no session is opened anew: as many items are handed on the end with p as were sent to p
+all_handed : (s n p : ℕ) (D : List Deed) → count_all p (sent (history_of s n D)) ≡ length (handed (calls_at p (history_of s n D)))
+all_handed s n p [] = refl
+all_handed s n p (deed ∷ D) =
+    let more : List Gift = gifts s n deed D (work s n D) in
+    let items : List Item = items_to p more in
+    let before : List SentItem = sent (history_of s n D) in
+    let calls : List EndEntry = calls_at p (history_of s n D) in
+    let to_p : SentItem → Bool = λ (x : SentItem). x.to == p in
+    let sent_then : count_all p (with_gifts D before more) ≡ count_all p before + length items =
+    sym (length-map (filter to_p (with_gifts D before more)) (λ (x : SentItem). x.item))
+    ∙ ap length (gifts_sent_to p D more before)
+    ∙ length-append (items_sent_to p before) items
+    ∙ ap (λ (k : ℕ). k + length items) (length-map (filter to_p before) (λ (x : SentItem). x.item)) in
+    let handed_then : length (handed (own_calls p deed (with_sends items calls))) ≡ length (handed calls) + length items =
+    ap length (own_handed p deed (with_sends items calls) ∙ sends_handed items calls)
+    ∙ length-append (handed calls) (map payload_of items)
+    ∙ ap (λ (k : ℕ). length (handed calls) + k) (length-map items payload_of) in
+    let same = all_handed s n p D in
+    sent_then ∙ ap (λ (k : ℕ). k + length items) same ∙ sym handed_then
 
 module _ {s n : ℕ} {limits : Limits} {st : State} {D : List Deed} (stands : Stands s n limits st D) where
   -- so many Dirties were sent and no more
   pub dirties_low : length (dirties (history_of s n D)) ≤ n * 1099511627776
   dirties_low = few_for_each n (dirties (history_of s n D)) (up_to (dirties (history_of s n D)) (dirties_asked s n D)) (λ p.
       let asked = asked_sent p (sent (history_of s n D)) in
-      let count = count_handed s n p D in
+      let count = all_handed s n p D in
       let most : length (handed (calls_at p (history_of s n D))) ≤ 1099511627776 = handed_low s p limits (calls_at p (history_of s n D)) (calls_law s n limits D stands.right p) in
       omega (arith, asked, count, most))
     where

@@ -59,7 +59,7 @@ own_too false = refl
 -- a message that has lent all stays what it is
 lent_stays : (s n : ℕ) (D : List Deed) (m : Message) → IsAllLent m → message_after s n D m ≡ m
 unfolding message_after copy_after
-lent_stays s n D m all = ap (λ (copies : List RefCopy). record { from = m.from; number = m.number; item = m.item; copies = copies }) (copies m.copies all)
+lent_stays s n D m all = ap (λ (copies : List RefCopy). record { from = m.from; session = m.session; number = m.number; item = m.item; copies = copies }) (copies m.copies all)
   where
     made : (b : Bool) (loan : Loan) → loan ≡ loans.Lent → loan_after b loan ≡ loan
     made b loan lent = ap (loan_after b) lent ∙ sym lent
@@ -93,7 +93,7 @@ module _ {s n p k : ℕ} {D : List Deed} (index : ℕ) (front : IsFront s n p k 
   unfolding message_after
   message_granted m fixed =
       let each : AllByRecursion (λ (copy : RefCopy). copy_after s n D copy ≡ copy) m.copies = all_fixed (λ copy. copy_after s n D copy) m.copies (ap (λ (x : Message). x.copies) fixed) in
-      ap (λ (copies : List RefCopy). record { from = m.from; number = m.number; item = m.item; copies = copies })
+      ap (λ (copies : List RefCopy). record { from = m.from; session = m.session; number = m.number; item = m.item; copies = copies })
       (maps_agree (λ copy. copy_after s n D copy) (λ copy. copy_after s n (Act p k ∷ D) copy) (granted_copy (own_ref p index)) copy_granted m.copies each)
 
   -- the loans that are made where a reference is granted are those to messages that wait

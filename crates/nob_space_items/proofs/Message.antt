@@ -38,11 +38,11 @@ use Rattle.nob_model_history.specs.declared.transit.SentItem.{SentItem}
 use Rattle.nob_model_history.specs.Histories.{history_of}
 use Rattle.nob_model_history.specs.Ends.{calls_at, items_to, own_calls, with_sends}
 use Rattle.nob_model_history.specs.Listing.{is_listed, is_entered, is_entered_after}
-use Rattle.nob_model_history.specs.Transit.{bundles, dirties, is_pinned, is_settle_of, sent}
+use Rattle.nob_model_history.specs.Transit.{bundles, dirties, next_sent, is_pinned, is_settle_of, sent}
 use Rattle.nob_model_history.proofs.Dirtying.{message_asks, dirties_more}
 use Rattle.nob_model_history.proofs.Numbered.{calls_more}
 use Rattle.nob_model_history.proofs.Pinning.{bundles_kept, no_settle}
-use Rattle.nob_model_history.proofs.Sending.{new_items, next_item}
+use Rattle.nob_model_history.proofs.Sending.{new_items}
 use Rattle.nob_model_history.proofs.Turning as turning
 use Rattle.nob_model_history.proofs.Turning.{after_dirty, shapes, wanted_none}
 use Rattle.nob_model_acting.specs.Acting.{act_on, act_refusal, answer_of_act, fault_of}
@@ -53,10 +53,10 @@ use Rattle.nob_model.proofs.Made.{loans_made}
 use Rattle.nob_model.proofs.Premises.{front_item, in_turn, took_turns}
 use Rattle.nob_space_waiting.specs.Waiting.{is_due_in}
 use Rattle.nob_space_state.specs.Parts.{State}
-use Rattle.nob_space_state.specs.Looks.{has_closed}
+use Rattle.nob_space_state.specs.Looks.{has_closed, number_with}
 use Rattle.nob_space_holds.specs.Shows.{far_state}
 use Rattle.nob_space_state.specs.Stands.{Stands}
-use Rattle.nob_space_state.proofs.Told.{closed_there}
+use Rattle.nob_space_state.proofs.Told.{closed_there, number_there}
 use Rattle.nob_space_items.specs.Fronts.{IsFront}
 use Rattle.nob_space_settling.specs.Settling.{is_denied}
 use Rattle.nob_space_settling.proofs.Resolving.{denied_far}
@@ -140,10 +140,10 @@ to_peers s n [] all = refl
 to_peers s n (rep ∷ reps) all = ap (λ (b : Bool). cond b (dirty_for rep ∷ filter (λ (gift : Gift). is_peer s n gift.to) (map dirty_for reps)) (filter (λ (gift : Gift). is_peer s n gift.to) (map dirty_for reps))) all.0 ∙ ap (λ (gifts : List Gift). dirty_for rep ∷ gifts) (to_peers s n reps all.1)
 
 -- Dirties have no pins
-no_pins : (D : List Deed) (reps : List WireRep) (before : List SentItem) → filter (is_pinned D) (new_items before (map dirty_for reps)) ≡ []
+no_pins : (D : List Deed) (reps : List WireRep) (before : List SentItem) → filter (is_pinned D) (new_items D before (map dirty_for reps)) ≡ []
 unfolding dirty_for
 no_pins D [] before = refl
-no_pins D (rep ∷ reps) before = no_pins D reps (before ++ next_item before (dirty_for rep) ∷ [])
+no_pins D (rep ∷ reps) before = no_pins D reps (before ++ next_sent D before (dirty_for rep) ∷ [])
 
 none_mapped : {A B : Type 0} (f : A → B) (xs : List A) → is_none_of (map f xs) ≡ is_none_of xs
 none_mapped f [] = refl
@@ -174,6 +174,10 @@ loans_put s n E m (items.Clean index) W = refl
 
 pub far_by : (held : Bool) (t : Turns) (pending granted refused : Bool) → turning.Stands t pending granted refused → far_state false held t ≡ (if pending then states.Pending else if granted then states.Granted else if refused then states.Refused else states.Unknown)
 far_by held t pending granted refused stands = λ i. if stands.0 i then states.Pending else if stands.1 i then states.Granted else if stands.2 i then states.Refused else states.Unknown
+
+-- a message from p in item k, with the loans of its references as it comes
+abbrev pub message_of : (s n : ℕ) → State → (p k : ℕ) → Item → Message
+message_of s n st p k item = record { from = p; session = number_with st.sessions p; number = k; item = item; copies = new_copies s n st (counted_in item) }
 
 module _ {s n : ℕ} {limits : Limits} {st : State} {D : List Deed} (stands : Stands s n limits st D) (p k : ℕ) (item : Item) (front : IsFront s n p k item D) (message : IsMessage item) where
   -- the item that is acted on
@@ -272,8 +276,8 @@ module _ {s n : ℕ} {limits : Limits} {st : State} {D : List Deed} (stands : St
   -- the bundles
   pub act_bundles : bundles (history_of s n (Act p k ∷ D)) ≡ bundles (history_of s n D)
   act_bundles =
-      bundles_kept s n (Act p k) D (no_settle p k D (λ j. ap (is_settle_of j) acted_item ∙ settles_none j item message)) (λ q. refl)
-      ∙ ap (λ (more : List Gift). bundles (history_of s n D) ++ filter (is_pinned D) (new_items (sent (history_of s n D)) more)) act_gives
+      bundles_kept s n (Act p k) D (no_settle p k D (λ j. ap (is_settle_of j) acted_item ∙ settles_none j item message)) (λ q. refl) (λ q. refl)
+      ∙ ap (λ (more : List Gift). bundles (history_of s n D) ++ filter (is_pinned D) (new_items D (sent (history_of s n D)) more)) act_gives
       ∙ ap (λ (more : List SentItem). bundles (history_of s n D) ++ more) (no_pins D (wanted_refs s n st (counted_in item)) (sent (history_of s n D)))
       ∙ append-nil (bundles (history_of s n D))
 
@@ -288,7 +292,7 @@ module _ {s n : ℕ} {limits : Limits} {st : State} {D : List Deed} (stands : St
 
   same_message : (m : Message) → message_after s n (Act p k ∷ D) m ≡ message_after s n D m
   unfolding message_after
-  same_message m = λ i. record { from = m.from; number = m.number; item = m.item; copies = map (λ copy. same_copy copy i) m.copies }
+  same_message m = λ i. record { from = m.from; session = m.session; number = m.number; item = m.item; copies = map (λ copy. same_copy copy i) m.copies }
 
   same_run : (run : Run) → run_after s n (Act p k ∷ D) run ≡ run_after s n D run
   unfolding run_after
@@ -329,27 +333,27 @@ module _ {s n : ℕ} {limits : Limits} {st : State} {D : List Deed} (stands : St
       by_answer false false = refl
 
   -- the message once it was acted on
-  pub new_message_at : message_after s n (Act p k ∷ D) (new_message s n p k item (Act p k ∷ D)) ≡ record { from = p; number = k; item = item; copies = new_copies s n st (counted_in item) }
+  pub new_message_at : message_after s n (Act p k ∷ D) (new_message s n p k item (Act p k ∷ D)) ≡ message_of s n st p k item
   unfolding message_after
-  new_message_at = ap (λ (copies : List RefCopy). record { from = p; number = k; item = item; copies = copies }) (all_copies (counted_in item) (filter_passes is_counted (refs_carried item)))
+  new_message_at = λ i. record { from = p; session = sym (number_there stands p front.peer) i; number = k; item = item; copies = all_copies (counted_in item) (filter_passes is_counted (refs_carried item)) i }
     where
       all_copies : (all : List WireRep) → AllByRecursion (λ rep. is_counted rep ≡ true) all → map (λ copy. copy_after s n (Act p k ∷ D) copy) (map (λ rep. new_copy s n (Act p k ∷ D) rep) all) ≡ new_copies s n st all
       all_copies [] all = refl
       all_copies (rep ∷ rest) all = λ i. new_copy_at rep all.0 i ∷ all_copies rest all.1 i
 
   -- the outstanding work: the message is put where it goes
-  pub act_work : work s n (Act p k ∷ D) ≡ after_message (record { from = p; number = k; item = item; copies = new_copies s n st (counted_in item) }) item (work s n D)
+  pub act_work : work s n (Act p k ∷ D) ≡ after_message (message_of s n st p k item) item (work s n D)
   unfolding work_after after_act
   act_work =
       ap (λ (found : Option Item). with_loans s n (Act p k ∷ D) (after_act s n p k D found (work s n D))) acted_item
       ∙ loans_put s n (Act p k ∷ D) (new_message s n p k item (Act p k ∷ D)) item (work s n D)
       ∙ ap (λ (m : Message). after_message m item (with_loans s n (Act p k ∷ D) (work s n D))) new_message_at
-      ∙ ap (after_message (record { from = p; number = k; item = item; copies = new_copies s n st (counted_in item) }) item) same_loans
+      ∙ ap (after_message (message_of s n st p k item) item) same_loans
 
   -- what is lost is lost as before
   pub act_lost : (rep : WireRep) → is_lost s n rep (Act p k ∷ D) ≡ is_lost s n rep D
   act_lost rep = ap (λ b. not (is_own s rep) && (not (is_peer s n rep.owner) || closed rep.owner D || b)) (same_refused rep)
 
   -- what is due to the message isn't lost
-  pub act_due : (rep : WireRep) → is_due_in (record { from = p; number = k; item = item; copies = new_copies s n st (counted_in item) } ∷ []) rep ≡ true → is_lost s n rep (Act p k ∷ D) ≡ false
+  pub act_due : (rep : WireRep) → is_due_in (message_of s n st p k item ∷ []) rep ≡ true → is_lost s n rep (Act p k ∷ D) ≡ false
   act_due rep due = due_open s n p k item (Act p k ∷ D) rep (ap (λ (m : Message). is_due_in (m ∷ []) rep) new_message_at ∙ due)

@@ -66,8 +66,8 @@ module _ (s n p k : ℕ) (item : Item) (D : List Deed) (there : item_at p k D �
   -- the bundles stay where nothing is settled and nothing given
   pub bundles_stay : ((j : ℕ) → is_settle_of j (Some item) ≡ false) → gifts s n (Act p k) D (work s n D) ≡ [] → transit.bundles (history_of s n (Act p k ∷ D)) ≡ transit.bundles (history_of s n D)
   bundles_stay other none =
-      bundles_kept s n (Act p k) D (no_settle p k D (λ j. ap (is_settle_of j) there ∙ other j)) (λ q. refl)
-      ∙ ap (λ (more : List Gift). transit.bundles (history_of s n D) ++ filter (is_pinned D) (new_items (sent (history_of s n D)) more)) none
+      bundles_kept s n (Act p k) D (no_settle p k D (λ j. ap (is_settle_of j) there ∙ other j)) (λ q. refl) (λ q. refl)
+      ∙ ap (λ (more : List Gift). transit.bundles (history_of s n D) ++ filter (is_pinned D) (new_items D (sent (history_of s n D)) more)) none
       ∙ append-nil (transit.bundles (history_of s n D))
 
   -- who is listed, where the item is from another

@@ -226,10 +226,10 @@ module _ {s n p k : ℕ} {D : List Deed} (index : ℕ) (front : IsFront s n p k 
   unfolding with_loans message_after run_after copy_after
   refused_loans =
       ap (λ (all : WireRep → Bool). record {
-        waiting = map (λ message. record { from = message.from; number = message.number; item = message.item; copies = map (λ copy. record { rep = copy.rep; loan = loan_after (is_own s copy.rep || (all copy.rep && not (closed copy.rep.owner D))) copy.loan }) message.copies }) (work s n D).waiting;
-        ready = map (λ message. record { from = message.from; number = message.number; item = message.item; copies = map (λ copy. record { rep = copy.rep; loan = loan_after (is_own s copy.rep || (all copy.rep && not (closed copy.rep.owner D))) copy.loan }) message.copies }) (work s n D).ready;
-        running = map (λ run. record { job = run.job; message = record { from = run.message.from; number = run.message.number; item = run.message.item; copies = map (λ copy. record { rep = copy.rep; loan = loan_after (is_own s copy.rep || (all copy.rep && not (closed copy.rep.owner D))) copy.loan }) run.message.copies } }) (work s n D).running;
-        replies = map (λ message. record { from = message.from; number = message.number; item = message.item; copies = map (λ copy. record { rep = copy.rep; loan = loan_after (is_own s copy.rep || (all copy.rep && not (closed copy.rep.owner D))) copy.loan }) message.copies }) (work s n D).replies;
+        waiting = map (λ message. record { from = message.from; session = message.session; number = message.number; item = message.item; copies = map (λ copy. record { rep = copy.rep; loan = loan_after (is_own s copy.rep || (all copy.rep && not (closed copy.rep.owner D))) copy.loan }) message.copies }) (work s n D).waiting;
+        ready = map (λ message. record { from = message.from; session = message.session; number = message.number; item = message.item; copies = map (λ copy. record { rep = copy.rep; loan = loan_after (is_own s copy.rep || (all copy.rep && not (closed copy.rep.owner D))) copy.loan }) message.copies }) (work s n D).ready;
+        running = map (λ run. record { job = run.job; message = record { from = run.message.from; session = run.message.session; number = run.message.number; item = run.message.item; copies = map (λ copy. record { rep = copy.rep; loan = loan_after (is_own s copy.rep || (all copy.rep && not (closed copy.rep.owner D))) copy.loan }) run.message.copies } }) (work s n D).running;
+        replies = map (λ message. record { from = message.from; session = message.session; number = message.number; item = message.item; copies = map (λ copy. record { rep = copy.rep; loan = loan_after (is_own s copy.rep || (all copy.rep && not (closed copy.rep.owner D))) copy.loan }) message.copies }) (work s n D).replies;
         calls = (work s n D).calls;
       }) (λ i rep. granted_same rep i)
       ∙ loans_made s n D

@@ -69,8 +69,7 @@ use Rattle.nob_space_settling.proofs.Spares.{CanBeAsked, all_append}
 use Rattle.nob_space_items.proofs.Asks.{all_asked, wanted_unknown}
 use Rattle.nob_space_items.proofs.Bounded.{filter_short, dirties_low, message_lends, lent_low}
 use Rattle.nob_space_items.proofs.Lost.{message_new}
-use Rattle.nob_space_items.proofs.Message.{act_due, act_lost, all_peers}
-use Rattle.nob_space_items.proofs.Received.{message_of}
+use Rattle.nob_space_items.proofs.Message.{message_of, act_due, act_lost, all_peers}
 use Rattle.nob_space_items.proofs.ReadItems.{item_few}
 
 -- ---- lists

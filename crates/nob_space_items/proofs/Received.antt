@@ -41,7 +41,7 @@ use Rattle.nob_space_items.specs.Placing.{IsMessage}
 use Rattle.nob_space_items.specs.Receiving.{Receives}
 use Rattle.nob_space_items.proofs.Asks.{asks_show}
 use Rattle.nob_space_items.proofs.Lost.{message_awaited}
-use Rattle.nob_space_items.proofs.Message.{act_bundles, act_calls, act_due, act_listed, act_lost, act_work}
+use Rattle.nob_space_items.proofs.Message.{message_of, act_bundles, act_calls, act_due, act_listed, act_lost, act_work}
 
 -- ---- what is lent
 
@@ -93,10 +93,6 @@ module _ (s : ℕ) (rep : WireRep) where
   lent_put m (items.Clean index) W message = absurd (cc)
 
 -- ---- the state
-
--- a message from p in item k, with the loans of its references as it comes
-abbrev pub message_of : (s n : ℕ) → State → (p k : ℕ) → Item → Message
-message_of s n st p k item = record { from = p; number = k; item = item; copies = new_copies s n st (counted_in item) }
 
 module _ {s n : ℕ} {limits : Limits} {st new : State} {D : List Deed} (stands : Stands s n limits st D) (p k : ℕ) (item : Item) (front : IsFront s n p k item D) (message : IsMessage item)
     (receives : Receives s st new (message_of s n st p k item) (wanted_refs s n st (counted_in item))) where

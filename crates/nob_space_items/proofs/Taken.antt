@@ -149,10 +149,10 @@ module _ (s n p k : ℕ) (item : Item) (D : List Deed) (there : item_at p k D �
     loans_same : with_loans s n (Act p k ∷ D) (work s n D) ≡ with_loans s n D (work s n D)
     unfolding with_loans message_after run_after copy_after
     loans_same = ap (λ (all : WireRep → Turns). record {
-      waiting = map (λ message. record { from = message.from; number = message.number; item = message.item; copies = map (λ copy. record { rep = copy.rep; loan = loan_after (is_own s copy.rep || (is_granted (all copy.rep) && not (closed copy.rep.owner D))) copy.loan }) message.copies }) (work s n D).waiting;
-      ready = map (λ message. record { from = message.from; number = message.number; item = message.item; copies = map (λ copy. record { rep = copy.rep; loan = loan_after (is_own s copy.rep || (is_granted (all copy.rep) && not (closed copy.rep.owner D))) copy.loan }) message.copies }) (work s n D).ready;
-      running = map (λ run. record { job = run.job; message = record { from = run.message.from; number = run.message.number; item = run.message.item; copies = map (λ copy. record { rep = copy.rep; loan = loan_after (is_own s copy.rep || (is_granted (all copy.rep) && not (closed copy.rep.owner D))) copy.loan }) run.message.copies } }) (work s n D).running;
-      replies = map (λ message. record { from = message.from; number = message.number; item = message.item; copies = map (λ copy. record { rep = copy.rep; loan = loan_after (is_own s copy.rep || (is_granted (all copy.rep) && not (closed copy.rep.owner D))) copy.loan }) message.copies }) (work s n D).replies;
+      waiting = map (λ message. record { from = message.from; session = message.session; number = message.number; item = message.item; copies = map (λ copy. record { rep = copy.rep; loan = loan_after (is_own s copy.rep || (is_granted (all copy.rep) && not (closed copy.rep.owner D))) copy.loan }) message.copies }) (work s n D).waiting;
+      ready = map (λ message. record { from = message.from; session = message.session; number = message.number; item = message.item; copies = map (λ copy. record { rep = copy.rep; loan = loan_after (is_own s copy.rep || (is_granted (all copy.rep) && not (closed copy.rep.owner D))) copy.loan }) message.copies }) (work s n D).ready;
+      running = map (λ run. record { job = run.job; message = record { from = run.message.from; session = run.message.session; number = run.message.number; item = run.message.item; copies = map (λ copy. record { rep = copy.rep; loan = loan_after (is_own s copy.rep || (is_granted (all copy.rep) && not (closed copy.rep.owner D))) copy.loan }) run.message.copies } }) (work s n D).running;
+      replies = map (λ message. record { from = message.from; session = message.session; number = message.number; item = message.item; copies = map (λ copy. record { rep = copy.rep; loan = loan_after (is_own s copy.rep || (is_granted (all copy.rep) && not (closed copy.rep.owner D))) copy.loan }) message.copies }) (work s n D).replies;
       calls = (work s n D).calls;
     }) (λ i rep. same_turns rep i)
 

@@ -198,12 +198,14 @@ pub(crate) fn act_on_message(
     ensures err { OnErr result (Keeps parts.old parts.new) }
     ensures here { parts.new.here ≡ parts.old.here }
 {
+    let session = parts.number(peer);
     let wanted = judge_message(parts, &item)?;
     let dirties = new_dirties(alloc, wanted.as_slice())?;
     let copies = new_copies(parts, alloc, &item)?;
     grow(parts, wanted.as_slice(), copies.as_slice().len())?;
     let message = Message {
         from: peer,
+        session,
         number,
         item,
         copies,

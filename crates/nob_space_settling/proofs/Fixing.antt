@@ -36,7 +36,7 @@ module _ (s n : ℕ) (D E : List Deed) (less : (rep : WireRep) → is_usable s n
   unfolding message_after
   message_stays message fixed =
       let copies : map (λ copy. copy_after s n D copy) message.copies ≡ message.copies = ap (λ (m : Message). m.copies) fixed in
-      ap (λ (cs : List RefCopy). record { from = message.from; number = message.number; item = message.item; copies = cs })
+      ap (λ (cs : List RefCopy). record { from = message.from; session = message.session; number = message.number; item = message.item; copies = cs })
       (fixed_map (λ copy. copy_after s n E copy) message.copies (all_weaker (λ copy. copy_after s n D copy ≡ copy) (λ copy. copy_after s n E copy ≡ copy) copy_stays message.copies (all_fixed (λ copy. copy_after s n D copy) message.copies copies)))
 
   run_stays : (run : Run) → run_after s n D run ≡ run → run_after s n E run ≡ run

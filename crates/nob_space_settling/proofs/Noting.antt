@@ -21,7 +21,7 @@ use Rattle.nob_table_rows.specs.Standings as standings
 use Rattle.nob_table.specs.Table.{Table, standing}
 use Rattle.nob_model_types.specs.declared.deed.Deed.{Deed}
 use Rattle.nob_model_types.specs.Objects as objects
-use Rattle.nob_model_types.specs.Sessions.{closed, is_peer}
+use Rattle.nob_model_types.specs.Sessions.{closed, is_peer, number}
 use Rattle.nob_model_types.specs.Turns.{turns}
 use Rattle.nob_model_work.specs.declared.gifts.Gift.{Gift}
 use Rattle.nob_model_work.specs.declared.work.Outstanding.{Outstanding}
@@ -33,10 +33,10 @@ use Rattle.nob_model_history.specs.Ends.{items_to, kind_of, payload_of, with_sen
 use Rattle.nob_model_history.specs.Holds.{gains, releases}
 use Rattle.nob_model_history.specs.Listing.{is_listed}
 use Rattle.nob_model_history.specs.Transit as transit
-use Rattle.nob_model_history.specs.Transit.{is_pinned, is_settled, sent, bundles, is_some_of}
+use Rattle.nob_model_history.specs.Transit.{next_sent, is_of_present, is_pinned, is_settled, sent, bundles, is_some_of}
 use Rattle.nob_model_history.proofs.Numbered.{calls_more}
 use Rattle.nob_model_history.proofs.Pinning.{bundles_kept}
-use Rattle.nob_model_history.proofs.Sending.{new_items, next_item}
+use Rattle.nob_model_history.proofs.Sending.{new_items}
 use Rattle.nob_model_history.proofs.Unasked.{acts_on_message, dirties_same}
 use Rattle.nob_model.specs.Lists.{IsRightDeed}
 use Rattle.nob_model.specs.Right.{own_ref, calls_made, jobs_made}
@@ -48,13 +48,14 @@ use Rattle.nob_space_state.proofs.Sent.{gift_to}
 use Rattle.nob_space_state.proofs.Told.{ended_there}
 use Rattle.nob_space_holds.proofs.Marked.{used_still}
 
--- what a deed leaves that takes nothing, closes nothing and gives one peer items without references
+-- what a deed leaves that takes nothing, closes and opens nothing and gives one peer items without references
 pub record GivesNotes (s n : ℕ) (deed : Deed) (D : List Deed) (p : ℕ) (items : List Item) : Type 0 where
   pub gives : gifts s n deed D (work s n D) ≡ map (gift_to p) items
   pub bare : AllByRecursion (λ (item : Item). counted_in item ≡ []) items
   pub asks_nothing : acts_on_message deed D ≡ false
   pub makes_no_call : (q : ℕ) (calls : List EndEntry) → own_calls q deed calls ≡ calls
   pub closes_nothing : (q : ℕ) → closed q (deed ∷ D) ≡ closed q D
+  pub opens_nothing : (q : ℕ) → number q (deed ∷ D) ≡ number q D
   pub settles_nothing : (q k : ℕ) → is_settled q k (deed ∷ D) ≡ is_settled q k D
   pub exports : objects.exports (deed ∷ D) ≡ objects.exports D
   pub withdrawn : (index : ℕ) → objects.is_withdrawn index (deed ∷ D) ≡ objects.is_withdrawn index D
@@ -75,11 +76,11 @@ items_elsewhere p q [] other = refl
 items_elsewhere p q (item ∷ items) other = rw other (items_elsewhere p q items other)
 
 -- items without references have no pins
-none_pinned : (D : List Deed) (p : ℕ) (items : List Item) (before : List SentItem) → AllByRecursion (λ (item : Item). counted_in item ≡ []) items → filter (is_pinned D) (new_items before (map (gift_to p) items)) ≡ []
+none_pinned : (D : List Deed) (p : ℕ) (items : List Item) (before : List SentItem) → AllByRecursion (λ (item : Item). counted_in item ≡ []) items → filter (is_pinned D) (new_items D before (map (gift_to p) items)) ≡ []
 none_pinned D p [] before bare = refl
 none_pinned D p (item ∷ items) before bare =
-    ap (λ (reps : List WireRep). cond (is_some_of reps && not (is_settled p (next_item before (gift_to p item)).number D) && not (closed p D)) (next_item before (gift_to p item) ∷ filter (is_pinned D) (new_items (before ++ next_item before (gift_to p item) ∷ []) (map (gift_to p) items))) (filter (is_pinned D) (new_items (before ++ next_item before (gift_to p item) ∷ []) (map (gift_to p) items)))) bare.0
-    ∙ none_pinned D p items (before ++ next_item before (gift_to p item) ∷ []) bare.1
+    ap (λ (reps : List WireRep). cond (is_some_of reps && is_of_present D (next_sent D before (gift_to p item)) && not (is_settled p (next_sent D before (gift_to p item)).number D) && not (closed p D)) (next_sent D before (gift_to p item) ∷ filter (is_pinned D) (new_items D (before ++ next_sent D before (gift_to p item) ∷ []) (map (gift_to p) items))) (filter (is_pinned D) (new_items D (before ++ next_sent D before (gift_to p item) ∷ []) (map (gift_to p) items)))) bare.0
+    ∙ none_pinned D p items (before ++ next_sent D before (gift_to p item) ∷ []) bare.1
 
 -- an item that is sent is the next of its end
 pub sent_next : (s p : ℕ) (limits : Limits) (old new : End) (L : List EndEntry) (item : Item) (payload : List ℕ) (kind : Kind) (number : ℕ) → session.Stands s p limits old L
@@ -111,8 +112,8 @@ module _ {s n p : ℕ} {items : List Item} {deed : Deed} {D : List Deed} (notes 
 
   pub same_bundles : bundles (history_of s n (deed ∷ D)) ≡ bundles (history_of s n D)
   same_bundles =
-      bundles_kept s n deed D notes.settles_nothing notes.closes_nothing
-      ∙ ap (λ (more : List Gift). bundles (history_of s n D) ++ filter (is_pinned D) (new_items (sent (history_of s n D)) more)) notes.gives
+      bundles_kept s n deed D notes.settles_nothing notes.closes_nothing notes.opens_nothing
+      ∙ ap (λ (more : List Gift). bundles (history_of s n D) ++ filter (is_pinned D) (new_items D (sent (history_of s n D)) more)) notes.gives
       ∙ ap (λ (all : List SentItem). bundles (history_of s n D) ++ all) (none_pinned D p items (sent (history_of s n D)) notes.bare)
       ∙ append-nil (bundles (history_of s n D))
 

@@ -21,8 +21,8 @@ use Rattle.nob_model_acting.specs.Candidates.{is_all_resolved, to_settle}
 use Rattle.nob_model.proofs.Lending.{NeverLost, all_lent}
 use Rattle.nob_model.proofs.Made.{all_fixed, work_fixed}
 use Rattle.nob_model.proofs.Waiting.{all_weaker}
-use Rattle.nob_model_invariant.proofs.Granted.{is_owned, LendsOwned}
-use Rattle.nob_model_invariant.proofs.Holdings.{holds_owned}
+use Rattle.nob_model_holdings.proofs.Granted.{is_owned, LendsOwned}
+use Rattle.nob_model_holdings.proofs.Holdings.{holds_owned}
 use Rattle.nob_space_state.specs.Parts.{State}
 use Rattle.nob_space_state.specs.Stands.{Stands}
 use Rattle.nob_space_waiting.specs.Waiting.{is_due, is_due_where, is_awaited, waits_for, due_to, due_to_all}

@@ -151,6 +151,7 @@ module _ {s n : ℕ} {limits : Limits} {st : State} {D : List Deed} (stands : St
       asks_nothing = refl;
       makes_no_call = λ q calls. refl;
       closes_nothing = λ q. refl;
+      opens_nothing = λ q. refl;
       settles_nothing = λ q k. refl;
       exports = refl;
       withdrawn = λ index. refl;

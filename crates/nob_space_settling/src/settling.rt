@@ -203,6 +203,7 @@ fn put_reply(
     give_back_message(table, me, &message);
     let reply = Message {
         from: message.from,
+        session: message.session,
         number: message.number,
         item: Item::Reply {
             call,

@@ -179,6 +179,7 @@ call_hands s n target method value call D peer = record {
   asks_nothing = refl;
   makes_no_call = λ q calls. refl;
   closes_nothing = λ q. refl;
+  opens_nothing = λ q. refl;
   settles_nothing = λ q k. refl;
   payloads = λ q k. refl;
   same_turns = λ rep. refl;

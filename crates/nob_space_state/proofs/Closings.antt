@@ -200,7 +200,7 @@ module _ (s n p : ℕ) (reason : Reason) (cause : Cause) (D : List Deed) where
       fixed_map (λ copy. copy_after s n (Closing p reason cause ∷ D) copy) message.copies
       (all_weaker (λ copy. copy_after s n D copy ≡ copy) (λ copy. copy_after s n (Closing p reason cause ∷ D) copy ≡ copy) copy_less message.copies
       (all_fixed (λ copy. copy_after s n D copy) message.copies (ap (λ (m : Message). m.copies) same))) in
-      λ i. record { from = message.from; number = message.number; item = message.item; copies = copies i }
+      λ i. record { from = message.from; session = message.session; number = message.number; item = message.item; copies = copies i }
 
   run_less : (run : Run) → run_after s n D run ≡ run → run_after s n (Closing p reason cause ∷ D) run ≡ run
   unfolding run_after

@@ -40,7 +40,7 @@ use Rattle.nob_model_history.specs.Holds.{hand, times, is_lent, copies_lent, tar
 use Rattle.nob_model.specs.Right.{right_finish, finish_of}
 use Rattle.nob_model_acting.specs.Sending.{◌or_else◌, unless}
 use Rattle.nob_space_state.specs.Parts.{State}
-use Rattle.nob_space_state.specs.Looks.{has_closed}
+use Rattle.nob_space_state.specs.Looks.{has_ended}
 use Rattle.nob_space_holds.specs.Returns.{HasLent, GivesBack}
 use Rattle.nob_space_holds.specs.Pins.{AddsPins}
 use Rattle.nob_space_state.specs.Sending.{value_refusal, send_refusal, reply_refusal}
@@ -53,7 +53,7 @@ use Rattle.nob_space_holds.proofs.Counted.{times_both}
 use Rattle.nob_model.proofs.Made.{loans_made}
 use Rattle.nob_space_state.proofs.Running.{IsCall, IsSoundRun, AreSound, HasCallNumber, all_filter, all_found, work_sound}
 use Rattle.nob_space_state.proofs.Sent.{HandsOne, shows_handed}
-use Rattle.nob_space_state.proofs.Told.{closed_there}
+use Rattle.nob_space_state.proofs.Told.{closed_there, over_there, still_there}
 
 -- ---- what the jobs of a number have lent
 
@@ -194,6 +194,7 @@ finish_hands s n j p call target method value outcome run D found from item peer
   asks_nothing = refl;
   makes_no_call = λ q calls. refl;
   closes_nothing = λ q. refl;
+  opens_nothing = λ q. refl;
   settles_nothing = λ q k. refl;
   payloads = λ q k. refl;
   same_turns = λ rep. refl;
@@ -227,21 +228,21 @@ module _ {s n : ℕ} {limits : Limits} {st : State} {D : List Deed} (stands : St
   finish_of_none none = found_there None none
 
   module _ (run : Run) (found : find (is_run j) st.work.running ≡ Some run) where
-    -- the client's session has closed
-    pub finish_of_closed : has_closed st.sessions run.message.from ≡ true → right_finish s j outcome (history_of s n D) ≡ Ok answers.Dropped
-    unfolding finish_of
-    finish_of_closed cut = found_there (Some run) found ∙ rw (sym (closed_there stands run.message.from) ∙ cut) refl
-
     -- the job that was found is sound
     pub run_sound : IsSoundRun s n run
     run_sound = (all_found (IsSoundRun s n) (is_run j) st.work.running run (state_sound stands j).running found).0
 
-    -- the client's session is open
-    pub finish_of_open : has_closed st.sessions run.message.from ≡ false → right_finish s j outcome (history_of s n D) ≡ unless (reply_refusal s run.message.from st (value_of outcome)) answers.Finished
+    -- the session of its call has ended
+    pub finish_of_ended : has_ended st.sessions run.message.from run.message.session ≡ true → right_finish s j outcome (history_of s n D) ≡ Ok answers.Dropped
+    unfolding finish_of
+    finish_of_ended cut = found_there (Some run) found ∙ rw (sym (over_there stands run.message run_sound.0.peer) ∙ cut) refl
+
+    -- it hasn't
+    pub finish_of_open : has_ended st.sessions run.message.from run.message.session ≡ false → right_finish s j outcome (history_of s n D) ≡ unless (reply_refusal s run.message.from st (value_of outcome)) answers.Finished
     unfolding finish_of
     finish_of_open still =
         found_there (Some run) found
-        ∙ rw (sym (closed_there stands run.message.from) ∙ still) (λ i. unless (value_there stands (value_of outcome) i or_else send_there stands run.message.from Limited run_sound.0.peer i) answers.Finished)
+        ∙ rw (sym (over_there stands run.message run_sound.0.peer) ∙ still) (λ i. unless (value_there stands (value_of outcome) i or_else send_there stands run.message.from Limited run_sound.0.peer i) answers.Finished)
 
 -- ---- a reply that is dropped
 
@@ -285,13 +286,13 @@ finish_shows {s} {n} {j} {p} {item} {outcome} {limits} {st} {D} stands hands u b
     (λ rep counted. ap (λ W. times rep (lent_in s W)) (ap (after_finish j) stands.work ∙ sym (finish_work s n j outcome D)))
 
 -- a Finish that isn't refused is answered
-pub finish_wants : {s n : ℕ} {limits : Limits} {st : State} {D : List Deed} → Stands s n limits st D → (j : ℕ) (outcome : Outcome) (run : Run) → find (is_run j) st.work.running ≡ Some run → has_closed st.sessions run.message.from ≡ false → (value : Value) → value ≡ value_of outcome → reply_refusal s run.message.from st value ≡ None
+pub finish_wants : {s n : ℕ} {limits : Limits} {st : State} {D : List Deed} → Stands s n limits st D → (j : ℕ) (outcome : Outcome) (run : Run) → find (is_run j) st.work.running ≡ Some run → has_ended st.sessions run.message.from run.message.session ≡ false → (value : Value) → value ≡ value_of outcome → reply_refusal s run.message.from st value ≡ None
     → right_finish s j outcome (history_of s n D) ≡ Ok answers.Finished
 finish_wants {s} {n} {limits} {st} {D} stands j outcome run found still value is none =
     finish_of_open stands j outcome run found still ∙ ap (λ refusal. unless refusal answers.Finished) (ap (reply_refusal s run.message.from st) (sym is) ∙ none)
 
 -- after a Finish
-pub finish_stands : {s n : ℕ} {limits : Limits} {st : State} {D : List Deed} → Stands s n limits st D → (j : ℕ) (outcome : Outcome) → IsRightDeed s n limits (Finish j outcome) D → (run : Run) → find (is_run j) st.work.running ≡ Some run → has_closed st.sessions run.message.from ≡ false
+pub finish_stands : {s n : ℕ} {limits : Limits} {st : State} {D : List Deed} → Stands s n limits st D → (j : ℕ) (outcome : Outcome) → IsRightDeed s n limits (Finish j outcome) D → (run : Run) → find (is_run j) st.work.running ≡ Some run → has_ended st.sessions run.message.from run.message.session ≡ false
     → (call target method : ℕ) (argument : Value) → run.message.item ≡ items.Call call target method argument
     → (old new : Roomy) (table_of_pins : pins.Table) → old ≡ get_or st.sessions (run.message.from - 1) old
     → (payload : List ℕ) (status number : ℕ) (value : Value) (reps : List WireRep) (u : Table) (runs : List Run)
@@ -309,7 +310,7 @@ finish_stands {s} {n} {limits} {st} {D} stands j outcome its run found still cal
     let hands : HandsOne s n (Finish j outcome) D run.message.from (items.Reply call (status_of outcome) (value_of outcome)) = finish_hands s n j run.message.from call target method argument outcome run D there refl item peer in
     let bytes : bytes_of (items.Reply call (status_of outcome) (value_of outcome)) ≡ Ok payload = λ i. (subst (λ (k : ℕ). bytes_of (items.Reply call k (value_of outcome)) ≡ Ok payload) status_is (subst (λ (v : Value). bytes_of (items.Reply call status v) ≡ Ok payload) value_is spelled)) i in
     let counted : reps ≡ filter is_counted (refs_in (value_of outcome)) = refs ∙ ap (λ (v : Value). filter is_counted (refs_in v)) value_is in
-    stands_sent stands run.message.from old new table_of_pins peer is payload Limited number W u st.calls hands (sym (closed_there stands run.message.from) ∙ still)
+    stands_sent stands run.message.from old new table_of_pins peer is payload Limited number W u st.calls hands (sym (closed_there stands run.message.from) ∙ still_there st.sessions run.message.from run.message.session still)
     (sym (ap bytes_if bytes)) (limited_reply call outcome) next answer (subst (λ (rs : List WireRep). AddsPins st.pins.bundles table_of_pins.bundles run.message.from (old.end.handed + 1) rs) counted adds)
     (finish_shows stands hands u back)
     (after ∙ ap (after_finish j) stands.work ∙ sym (finish_work s n j outcome D))
@@ -334,10 +335,10 @@ runs_number item call target method value number is = subst HasCallNumber is num
 pub reply_judged : (s client : ℕ) (st : State) (value : Value) → reply_refusal s client st value ≡ None → (value_refusal s st value ≡ None) × (send_refusal client Limited st ≡ None)
 reply_judged s client st value none = or_none _ _ none
 
--- the end with the client of the job that was found is open, so it hasn't closed
-pub still_open : (j : ℕ) (runs : List Run) (sessions : List Roomy) (run other : Run) → find (is_run j) runs ≡ Some run → has_closed sessions run.message.from ≡ false → find (is_run j) runs ≡ Some other → has_closed sessions other.message.from ≡ true → ⊥
+-- the session of the job that was found hasn't ended
+pub still_open : (j : ℕ) (runs : List Run) (sessions : List Roomy) (run other : Run) → find (is_run j) runs ≡ Some run → has_ended sessions run.message.from run.message.session ≡ false → find (is_run j) runs ≡ Some other → has_ended sessions other.message.from other.message.session ≡ true → ⊥
 still_open j runs sessions run other found still again cut =
     let both : Some run ≡ Some other = sym found ∙ again in
     let one : run ≡ other = cc in
-    let bad : true ≡ false = sym cut ∙ ap (λ (r : Run). has_closed sessions r.message.from) (sym one) ∙ still in
+    let bad : true ≡ false = sym cut ∙ ap (λ (r : Run). has_ended sessions r.message.from r.message.session) (sym one) ∙ still in
     absurd (cc)

@@ -21,7 +21,7 @@ use Rattle.nob_pins.specs.Bundles.{Pinned, bundle_of, is_of, has_bundle}
 use Rattle.nob_pins.specs.Bundles as pins
 use Rattle.nob_model_types.specs.declared.deed.Deed.{Deed}
 use Rattle.nob_model_types.specs.Objects as objects
-use Rattle.nob_model_types.specs.Sessions.{closed, payload_at}
+use Rattle.nob_model_types.specs.Sessions.{closed, number, payload_at}
 use Rattle.nob_model_types.specs.Turns.{turns}
 use Rattle.nob_model_work.specs.declared.gifts.Gift.{Gift}
 use Rattle.nob_model_work.specs.declared.work.Outstanding.{Outstanding}
@@ -34,7 +34,7 @@ use Rattle.nob_model_history.specs.Holds.{gains, releases, times}
 use Rattle.nob_model_history.specs.Listing.{is_listed}
 use Rattle.nob_model_history.specs.Premises.{SettlesSent}
 use Rattle.nob_model_history.specs.Transit as transit
-use Rattle.nob_model_history.specs.Transit.{asks_for, count_to, is_pinned, is_settled, is_some_of, sent}
+use Rattle.nob_model_history.specs.Transit.{asks_for, count_to, next_sent, is_pinned, is_settled, is_some_of, sent}
 use Rattle.nob_model_history.proofs.Dirtying.{asked_in, dirties_more}
 use Rattle.nob_model_history.proofs.Numbered.{calls_more, count_handed}
 use Rattle.nob_model_history.proofs.Pinning.{bundles_kept, bundle_sent, new_pins}
@@ -54,12 +54,13 @@ use Rattle.nob_space_holds.proofs.Counted.{times_both}
 abbrev pub gift_to : ℕ → Item → Gift
 gift_to p item = record { to = p; item = item }
 
--- what a deed leaves that takes nothing, closes nothing and hands one item to one peer
+-- what a deed leaves that takes nothing, closes and opens nothing and hands one item to one peer
 pub record HandsOne (s n : ℕ) (deed : Deed) (D : List Deed) (p : ℕ) (item : Item) : Type 0 where
   pub gives : gifts s n deed D (work s n D) ≡ gift_to p item ∷ []
   pub asks_nothing : asks_for p item ≡ None
   pub makes_no_call : (q : ℕ) (calls : List EndEntry) → own_calls q deed calls ≡ calls
   pub closes_nothing : (q : ℕ) → closed q (deed ∷ D) ≡ closed q D
+  pub opens_nothing : (q : ℕ) → number q (deed ∷ D) ≡ number q D
   pub settles_nothing : (q k : ℕ) → is_settled q k (deed ∷ D) ≡ is_settled q k D
   pub payloads : (q k : ℕ) → payload_at q k (deed ∷ D) ≡ payload_at q k D
   pub same_turns : (rep : WireRep) → turns s n rep (deed ∷ D) ≡ turns s n rep D
@@ -85,14 +86,13 @@ fewer_pins rep (one ∷ some) more none =
     omega (arith, none, all, these, less)
 
 -- what one bundle more, where there are references, makes of a sum over bundles
-sums_then : (f : Pinned → ℕ) (p number : ℕ) (item : Item) (old new : List Pinned) (items : List SentItem) (reps : List WireRep) → sum_by f old ≡ sum_by f (map bundle items) → AddsPins old new p number reps → counted_in item ≡ reps
-    → sum_by f new ≡ sum_by f (map bundle (items ++ cond (is_some_of reps) (record { to = p; number = number; item = item } ∷ []) []))
-sums_then f p number item old new items [] before adds are = ap (sum_by f) adds ∙ before ∙ ap (λ (all : List SentItem). sum_by f (map bundle all)) (sym (append-nil items))
-sums_then f p number item old new items (rep ∷ reps) before adds are =
-    let one : SentItem = record { to = p; number = number; item = item } in
-    let more : sum_by f new ≡ f (bundle_of p number (rep ∷ reps)) + sum_by f old = sum_by_pushed f (bundle_of p number (rep ∷ reps)) old new adds in
-    let last : sum_by f (map bundle (items ++ one ∷ [])) ≡ sum_by f (map bundle items) + f (bundle_of p number (counted_in item)) = ap (sum_by f) (map-append bundle items (one ∷ [])) ∙ sum_by_push f (map bundle items) (bundle one) in
-    let same : f (bundle_of p number (counted_in item)) ≡ f (bundle_of p number (rep ∷ reps)) = ap (λ (rs : List WireRep). f (bundle_of p number rs)) are in
+sums_then : (f : Pinned → ℕ) (one : SentItem) (old new : List Pinned) (items : List SentItem) (reps : List WireRep) → sum_by f old ≡ sum_by f (map bundle items) → AddsPins old new one.to one.number reps → counted_in one.item ≡ reps
+    → sum_by f new ≡ sum_by f (map bundle (items ++ cond (is_some_of reps) (one ∷ []) []))
+sums_then f one old new items [] before adds are = ap (sum_by f) adds ∙ before ∙ ap (λ (all : List SentItem). sum_by f (map bundle all)) (sym (append-nil items))
+sums_then f one old new items (rep ∷ reps) before adds are =
+    let more : sum_by f new ≡ f (bundle_of one.to one.number (rep ∷ reps)) + sum_by f old = sum_by_pushed f (bundle_of one.to one.number (rep ∷ reps)) old new adds in
+    let last : sum_by f (map bundle (items ++ one ∷ [])) ≡ sum_by f (map bundle items) + f (bundle_of one.to one.number (counted_in one.item)) = ap (sum_by f) (map-append bundle items (one ∷ [])) ∙ sum_by_push f (map bundle items) (bundle one) in
+    let same : f (bundle_of one.to one.number (counted_in one.item)) ≡ f (bundle_of one.to one.number (rep ∷ reps)) = ap (λ (rs : List WireRep). f (bundle_of one.to one.number rs)) are in
     omega (arith, more, last, same, before)
 
 module _ {s n p : ℕ} {item : Item} {deed : Deed} {D : List Deed} (hands : HandsOne s n deed D p item) where
@@ -124,20 +124,20 @@ module _ {s n p : ℕ} {item : Item} {deed : Deed} {D : List Deed} (hands : Hand
 
   -- the item has pins where it carries counted references
   bundles_then : SettlesSent s n D → closed p D ≡ false
-      → transit.bundles (history_of s n (deed ∷ D)) ≡ transit.bundles (history_of s n D) ++ cond (is_some_of (counted_in item)) (record { to = p; number = count_to p (sent (history_of s n D)) + 1; item = item } ∷ []) []
+      → transit.bundles (history_of s n (deed ∷ D)) ≡ transit.bundles (history_of s n D) ++ cond (is_some_of (counted_in item)) (next_sent D (sent (history_of s n D)) (gift_to p item) ∷ []) []
   bundles_then known still =
-      bundles_kept s n deed D hands.settles_nothing hands.closes_nothing
-      ∙ ap (λ (more : List Gift). transit.bundles (history_of s n D) ++ filter (is_pinned D) (new_items (sent (history_of s n D)) more)) hands.gives
+      bundles_kept s n deed D hands.settles_nothing hands.closes_nothing hands.opens_nothing
+      ∙ ap (λ (more : List Gift). transit.bundles (history_of s n D) ++ filter (is_pinned D) (new_items D (sent (history_of s n D)) more)) hands.gives
       ∙ ap (λ (items : List SentItem). transit.bundles (history_of s n D) ++ items) (new_pins s n D known (gift_to p item ∷ []))
-      ∙ ap (λ (b : Bool). transit.bundles (history_of s n D) ++ cond b (record { to = p; number = count_to p (sent (history_of s n D)) + 1; item = item } ∷ []) [])
+      ∙ ap (λ (b : Bool). transit.bundles (history_of s n D) ++ cond b (next_sent D (sent (history_of s n D)) (gift_to p item) ∷ []) [])
       (ap (λ (b : Bool). is_some_of (counted_in item) && not b) still ∙ and_true (is_some_of (counted_in item)))
 
   -- the bundles, once the pins of the item are put to them
   pub pins_then : (old new : List Pinned) → SettlesSent s n D → closed p D ≡ false → PinsStand old (history_of s n D)
       → AddsPins old new p (length (handed (calls_at p (history_of s n D))) + 1) (counted_in item) → PinsStand new (history_of s n (deed ∷ D))
   pins_then old new known still stand adds = λ f.
-      sums_then f p (length (handed (calls_at p (history_of s n D))) + 1) item old new (transit.bundles (history_of s n D)) (counted_in item) (stand f) adds refl
-      ∙ ap (λ (k : ℕ). sum_by f (map bundle (transit.bundles (history_of s n D) ++ cond (is_some_of (counted_in item)) (record { to = p; number = k + 1; item = item } ∷ []) []))) (count_handed s n p D)
+      sums_then f (next_sent D (sent (history_of s n D)) (gift_to p item)) old new (transit.bundles (history_of s n D)) (counted_in item) (stand f)
+      (subst (λ (k : ℕ). AddsPins old new p (k + 1) (counted_in item)) (count_handed s n p D) adds) refl
       ∙ ap (λ (items : List SentItem). sum_by f (map bundle items)) (sym (bundles_then known still))
 
   -- what a table shows, with other holds
@@ -155,7 +155,7 @@ module _ {s n p : ℕ} {item : Item} {deed : Deed} {D : List Deed} (hands : Hand
     loans = λ rep counted. shows.loans rep counted ∙ on_loan rep counted;
     dirties = shows.dirties ∙ ap length (sym dirties_then);
     places = λ rep. shows.places rep ∙ ap (λ reps. if standings.is_surrogate (standing t rep).state then transit.last_place rep reps else None) (sym dirties_then);
-    kept = used_then s t t (history_of s n D) (history_of s n (deed ∷ D)) (λ rep kept. kept) (λ rep none. fewer_pins rep (transit.bundles (history_of s n D)) _ (sym (λ i. times rep (flat_map (λ (item : SentItem). counted_in item.item) (bundles_kept s n deed D hands.settles_nothing hands.closes_nothing i))) ∙ none)) hands.listed shows.kept;
+    kept = used_then s t t (history_of s n D) (history_of s n (deed ∷ D)) (λ rep kept. kept) (λ rep none. fewer_pins rep (transit.bundles (history_of s n D)) _ (sym (λ i. times rep (flat_map (λ (item : SentItem). counted_in item.item) (bundles_kept s n deed D hands.settles_nothing hands.closes_nothing hands.opens_nothing i))) ∙ none)) hands.listed shows.kept;
   }
 
   -- the state with other ends, holds, pins and outstanding work

@@ -1,28 +1,35 @@
 -- Looks at a state tell words of each list that it stands for.
-use Rattle.std.proofs.Common.{◌≡◌, ℕ, ◌+◌, ◌-◌, ◌≤◌, true, false, not, ◌&&◌, ◌==◌, List, slice_get, Some, None, if◌then◌else◌, inl, inr, refl, sym, ap, subst, ◌∙◌, arith}
+use Rattle.std.proofs.Common.{◌≡◌, ℕ, ◌+◌, ◌-◌, ◌≤◌, true, false, not, ◌&&◌, ◌||◌, ◌==◌, List, slice_get, Some, None, if◌then◌else◌, inl, inr, refl, sym, ap, subst, ◌∙◌, arith}
 use Rattle.std.proofs.lemmas.Option.{slice_get_cases, none-some}
 use Rattle.std.proofs.lemmas.Bool.Decides.{nat_tests, Decides-eqb}
 use Rattle.nob_ids.specs.Names.{is_counted}
 use Rattle.nob_ids.specs.declared.limits.Limits.{Limits}
 use Rattle.nob_ids.specs.declared.wire_rep.WireRep.{WireRep}
-use Rattle.nob_session.specs.Stands.{Roomy, is_open_end}
+use Rattle.nob_session.specs.Stands.{End, Roomy, is_open_end}
 use Rattle.nob_table_rows.specs.Counts as counts
 use Rattle.nob_table.specs.Table.{standing}
 use Rattle.nob_table_rows.specs.Standings as standings
 use Rattle.nob_model_session.specs.End.{is_open}
 use Rattle.nob_model_types.specs.declared.deed.Deed.{Deed}
 use Rattle.nob_model_types.specs.Objects as objects
-use Rattle.nob_model_types.specs.Sessions.{is_peer, closed}
+use Rattle.nob_model_types.specs.Sessions.{is_peer, closed, number}
+use Rattle.nob_model_types.specs.declared.message.Message.{Message}
+use Rattle.nob_model_history.proofs.Sessions.{number_is}
 use Rattle.nob_model_history.specs.Histories.{history_of}
 use Rattle.nob_model_history.specs.Ends.{calls_at}
 use Rattle.nob_model_history.specs.Holds.{is_held, hand, times, gains, releases, lent_in}
 use Rattle.nob_model_acting.specs.Sending.{is_gone}
 use Rattle.nob_model.specs.Right.{own_ref}
+use Rattle.nob_model.specs.Right as right
 use Rattle.nob_space_state.specs.Parts.{State}
-use Rattle.nob_space_state.specs.Looks.{is_closed_end, has_closed}
+use Rattle.nob_space_state.specs.Looks.{is_closed_end, has_closed, number_of, number_with, has_ended}
 use Rattle.nob_space_state.proofs.Orderly.{orderly}
 use Rattle.nob_space_state.specs.Stands.{Stands}
 use Rattle.nob_space_state.proofs.Words.{open_calls}
+
+-- where a session hasn't ended its end is open
+pub still_there : (sessions : List Roomy) (p k : ℕ) → has_ended sessions p k ≡ false → has_closed sessions p ≡ false
+still_there sessions p k still = elim (has_closed sessions p) as (λ b. (b || not (k == number_with sessions p)) ≡ false → b ≡ false) [ true ↦ λ e. e | false ↦ λ _. refl ] still
 
 -- nothing is held where neither part has any
 counts_held : (g l r : ℕ) → r ≤ g → not ((g - r) == 0 && l == 0) ≡ not ((g + l) - r == 0)
@@ -68,6 +75,26 @@ module _ {s n : ℕ} {limits : Limits} {st : State} {D : List Deed} (stands : St
     | true ↦ λ none. sym ((orderly stands).strangers p (nobody p none))
     | false ↦ λ some. closed_at p (grind (arith, nat_tests, some))
   ] refl
+
+  -- the end at a place is in the session with its space
+  number_at : (p : ℕ) → 1 ≤ p → is_peer s n p ≡ true → number_of (slice_get st.sessions (p - 1)) ≡ number p D
+  number_at p low peer =
+      let place : p - 1 + 1 ≡ p = omega (arith, low) in
+      elim (slice_get st.sessions (p - 1)) as (λ end. slice_get st.sessions (p - 1) ≡ end → number_of end ≡ number p D) [
+        | Some end ↦ λ there. ap (λ (e : End). e.number) (stands.ends.ends (p - 1) end there) ∙ number_is s n (p - 1 + 1) D ∙ ap (λ (q : ℕ). number q D) place
+        | None ↦ λ nowhere. let bad : true ≡ false = sym peer ∙ no_peer p low nowhere in absurd (cc)
+      ] refl
+
+  -- the end with a peer is in the session with it
+  pub number_there : (p : ℕ) → is_peer s n p ≡ true → number_with st.sessions p ≡ number p D
+  number_there p peer = elim (p == 0) as (λ z. p == 0 ≡ z → number_of (if z then None else slice_get st.sessions (p - 1)) ≡ number p D) [
+    | true ↦ λ none. let bad : true ≡ false = sym peer ∙ nobody p none in absurd (cc)
+    | false ↦ λ some. number_at p (grind (arith, nat_tests, some)) peer
+  ] refl
+
+  -- the session of a message from a peer has ended where its end tells so
+  pub over_there : (message : Message) → is_peer s n message.from ≡ true → has_ended st.sessions message.from message.session ≡ right.has_ended message (history_of s n D)
+  over_there message peer = λ i. closed_there message.from i || not (message.session == number_there message.from peer i)
 
   -- the counts of a counted reference are its holds
   pub held_there : (rep : WireRep) → is_counted rep ≡ true → counts.is_held (standing st.table rep).counts ≡ is_held s rep (history_of s n D)

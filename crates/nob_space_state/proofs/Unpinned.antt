@@ -16,7 +16,7 @@ use Rattle.nob_model_work.specs.Gifts.{gifts, gifts_of}
 use Rattle.nob_model_work.specs.Work.{work}
 use Rattle.nob_model_history.specs.declared.transit.SentItem.{SentItem}
 use Rattle.nob_model_history.specs.Histories.{history_of}
-use Rattle.nob_model_history.specs.Transit.{sent, with_gifts, count_to, bundles, is_pinned, is_settled, is_some_of}
+use Rattle.nob_model_history.specs.Transit.{sent, next_sent, with_gifts, bundles, is_of_present, is_pinned, is_settled, is_some_of}
 use Rattle.nob_space_state.specs.Closing.{Closes, IsShutBelow}
 use Rattle.nob_space_state.specs.Looks.{has_closed}
 use Rattle.nob_space_state.specs.declared.parts.Parts.{Parts}
@@ -37,24 +37,25 @@ none_kept test [] all = refl
 none_kept test (x ∷ xs) all = ap (λ b. cond b (x ∷ filter test xs) (filter test xs)) all.0 ∙ none_kept test xs all.1
 
 module _ (s n : ℕ) where
-  gifts_to_peers : (items : List SentItem) (gs : List Gift) → AllByRecursion (λ (one : SentItem). is_peer s n one.to ≡ true) items → AllByRecursion (λ (gift : Gift). is_peer s n gift.to ≡ true) gs → AllByRecursion (λ (one : SentItem). is_peer s n one.to ≡ true) (with_gifts items gs)
-  gifts_to_peers items [] all more = all
-  gifts_to_peers items (gift ∷ gs) all more = gifts_to_peers (items ++ record { to = gift.to; number = count_to gift.to items + 1; item = gift.item } ∷ []) gs (all_push (λ (one : SentItem). is_peer s n one.to ≡ true) items (record { to = gift.to; number = count_to gift.to items + 1; item = gift.item }) all more.0) more.1
+  gifts_to_peers : (D : List Deed) (items : List SentItem) (gs : List Gift) → AllByRecursion (λ (one : SentItem). is_peer s n one.to ≡ true) items → AllByRecursion (λ (gift : Gift). is_peer s n gift.to ≡ true) gs → AllByRecursion (λ (one : SentItem). is_peer s n one.to ≡ true) (with_gifts D items gs)
+  gifts_to_peers D items [] all more = all
+  gifts_to_peers D items (gift ∷ gs) all more = gifts_to_peers D (items ++ next_sent D items gift ∷ []) gs (all_push (λ (one : SentItem). is_peer s n one.to ≡ true) items (next_sent D items gift) all more.0) more.1
 
   -- all that was sent went to peers
   sent_to_peers : (D : List Deed) → AllByRecursion (λ (one : SentItem). is_peer s n one.to ≡ true) (sent (history_of s n D))
   unfolding gifts
   sent_to_peers [] = tt
-  sent_to_peers (deed ∷ D) = gifts_to_peers (sent (history_of s n D)) (gifts s n deed D (work s n D)) (sent_to_peers D) (kept_pass (λ (gift : Gift). is_peer s n gift.to) (gifts_of s n deed D (work s n D)))
+  sent_to_peers (deed ∷ D) = gifts_to_peers D (sent (history_of s n D)) (gifts s n deed D (work s n D)) (sent_to_peers D) (kept_pass (λ (gift : Gift). is_peer s n gift.to) (gifts_of s n deed D (work s n D)))
 
-  unpinned : (some settled : Bool) → (some && not settled && not true) ≡ false
-  unpinned true true = refl
-  unpinned true false = refl
-  unpinned false settled = refl
+  unpinned : (some present settled : Bool) → (some && present && not settled && not true) ≡ false
+  unpinned true true true = refl
+  unpinned true true false = refl
+  unpinned true false settled = refl
+  unpinned false present settled = refl
 
   none_pinned : (D : List Deed) → ((p : ℕ) → is_peer s n p ≡ true → closed p D ≡ true) → (items : List SentItem) → AllByRecursion (λ (one : SentItem). is_peer s n one.to ≡ true) items → AllByRecursion (λ (one : SentItem). is_pinned D one ≡ false) items
   none_pinned D all_closed [] all = tt
-  none_pinned D all_closed (one ∷ items) all = (ap (λ b. is_some_of (counted_in one.item) && not (is_settled one.to one.number D) && not b) (all_closed one.to all.0) ∙ unpinned (is_some_of (counted_in one.item)) (is_settled one.to one.number D), none_pinned D all_closed items all.1)
+  none_pinned D all_closed (one ∷ items) all = (ap (λ b. is_some_of (counted_in one.item) && is_of_present D one && not (is_settled one.to one.number D) && not b) (all_closed one.to all.0) ∙ unpinned (is_some_of (counted_in one.item)) (is_of_present D one) (is_settled one.to one.number D), none_pinned D all_closed items all.1)
 
   -- where all sessions have closed nothing has pins
   no_bundles : (D : List Deed) → ((p : ℕ) → is_peer s n p ≡ true → closed p D ≡ true) → bundles (history_of s n D) ≡ []

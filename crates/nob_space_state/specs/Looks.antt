@@ -24,6 +24,19 @@ end_with sessions p = if p == 0 then None else slice_get sessions (p - 1)
 abbrev pub has_closed : List Roomy → ℕ → Bool
 has_closed sessions p = is_closed_end (end_with sessions p)
 
+-- the number of the session that an end is in, or 0 where there is no end
+abbrev pub number_of : Option Roomy → ℕ
+number_of None = 0
+number_of (Some end) = end.end.number
+
+-- the number of the session that the end with space p is in
+abbrev pub number_with : List Roomy → ℕ → ℕ
+number_with sessions p = number_of (end_with sessions p)
+
+-- whether session k with space p has ended: its end has closed, or is in another session
+abbrev pub has_ended : List Roomy → (p k : ℕ) → Bool
+has_ended sessions p k = has_closed sessions p || not (k == number_with sessions p)
+
 -- whether the table has holds of a reference
 abbrev pub has_holds : Table → WireRep → Bool
 has_holds t rep = counts.is_held (standing t rep).counts

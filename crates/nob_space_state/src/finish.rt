@@ -9,7 +9,7 @@ ghost use Rattle.nob_pickle.specs.declared.value.Value.TheVariants as values;
 ghost use Rattle.nob_model_work.specs.declared.work.Run.{Run as RunOf};
 ghost use Rattle.nob_model_work.specs.Work.{is_run};
 ghost use Rattle.nob_model.specs.Right as right;
-ghost use Rattle.nob_space_state.specs.Looks.{has_closed};
+ghost use Rattle.nob_space_state.specs.Looks.{has_ended};
 ghost use Rattle.nob_space_state.specs.Parts.{state_of};
 ghost use Rattle.nob_space_state.specs.Sending.{reply_refusal, finish_answer, finish_deed};
 ghost use Rattle.nob_space_state.specs.Stands.{StandFor, IsState, Keeps, Did, AnswersOrWants, history_for};
@@ -30,7 +30,7 @@ use std::alloc::Global;
 pub enum ReplyFate {
     /// It is handed on to the session with the client.
     HandedOn,
-    /// It is dropped: the session with the client has closed.
+    /// It is dropped: the session in which the call came has ended.
     Dropped,
 }
 
@@ -69,9 +69,9 @@ impl Parts {
 
     /// Finish: a job that runs is ended. Its outcome goes to its client as a reply, whose
     /// references are pinned until the client has settled them; what its call had lent is given
-    /// back. Where the session with the client has closed the reply is dropped, whatever the
-    /// outcome. Logarithmic in the jobs that run, and linear in the value and in what the call had
-    /// lent.
+    /// back. Where the session in which the call came has ended, by a close or by another one that was
+    /// opened, the reply is dropped, whatever the outcome. Logarithmic in the jobs that run, and
+    /// linear in the value and in what the call had lent.
     pub fn finish(
         &mut self,
         alloc: Global,
@@ -92,7 +92,7 @@ impl Parts {
             → Fits (words.value_of outcome.now)) }
         // A reply is dropped without memory.
         ensures dropped { (run : RunOf) → find (is_run job) self.old.jobs.running ≡ Some run
-            → has_closed self.old.sessions.items run.message.from ≡ true
+            → has_ended self.old.sessions.items run.message.from run.message.session ≡ true
             → result ≡ Ok ReplyFate.Dropped }
         ensures err { OnErr result (Keeps self.old self.new) }
         ensures here { self.new.here ≡ self.old.here }
@@ -101,11 +101,12 @@ impl Parts {
             return Err(SpaceError::Refused(Refusal::NoJob));
         };
         let client = run.message.from;
+        let session = run.message.session;
         let call = match &run.message.item {
             Item::Call { call, .. } => *call,
             _ => unreachable!(),
         };
-        if self.has_closed(client) {
+        if self.has_ended(client, session) {
             end_job(&mut self.table, &mut self.jobs, self.here.space, job);
             return Ok(ReplyFate::Dropped);
         }
@@ -118,10 +119,10 @@ impl Parts {
             Err(ItemError::OutOfMemory) => return Err(SpaceError::OutOfMemory),
         };
         let reps = counted(alloc, value)?;
-        let session = &mut self.sessions[client.place()];
+        let end = &mut self.sessions[client.place()];
         send_pinned(
             alloc,
-            session,
+            end,
             &mut self.pins,
             client,
             payload,

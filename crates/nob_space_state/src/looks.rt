@@ -10,7 +10,7 @@ ghost use Rattle.nob_model.specs.Tallies as tallies;
 ghost use Rattle.nob_space_state.specs.Stands.{StandFor, IsState, history_for};
 ghost use Rattle.nob_table_rows.specs.Standings as standings;
 ghost use Rattle.nob_table.specs.Table.{standing};
-ghost use Rattle.nob_space_state.specs.Looks.{has_closed, has_holds, is_gone, is_cut, has_clients};
+ghost use Rattle.nob_space_state.specs.Looks.{has_closed, number_with, has_ended, has_holds, is_gone, is_cut, has_clients};
 ghost use Rattle.nob_pins.specs.Bundles.{count_of};
 
 use crate::listings::has_clients;
@@ -28,6 +28,27 @@ impl Parts {
             Some(session) => !session.is_open(),
             None => false,
         }
+    }
+
+    /// The number of the session that the end with another space is in, or 0 where there is none.
+    /// Constant time.
+    pub fn number(&self, other: SpaceId) -> u32
+        ensures { result ≡ number_with self.now.sessions.items other }
+    {
+        match self.sessions.get(other.place()) {
+            Some(session) => session.number(),
+            None => 0,
+        }
+    }
+
+    /// Whether the session of a number with another space has ended: its end has closed, or is in
+    /// another session. Constant time.
+    pub fn has_ended(&self, other: SpaceId, session: u32) -> bool
+        ensures { result ≡ has_ended self.now.sessions.items other session }
+    {
+        let closed = self.has_closed(other);
+        let number = self.number(other);
+        closed || session != number
     }
 
     /// Whether anything holds a reference. A look-up.

@@ -82,13 +82,13 @@ copies_still rep (c ∷ copies) none =
 
 -- ---- messages
 pub granted_twice : (rep : WireRep) (m : Message) → granted_message rep (granted_message rep m) ≡ granted_message rep m
-granted_twice rep m = let copies = copies_twice rep m.copies in λ i. record { from = m.from; number = m.number; item = m.item; copies = copies i }
+granted_twice rep m = let copies = copies_twice rep m.copies in λ i. record { from = m.from; session = m.session; number = m.number; item = m.item; copies = copies i }
 
 pub none_due : (rep : WireRep) (m : Message) → due_to rep (granted_message rep m) ≡ 0
 none_due rep m = no_copy_due rep m.copies
 
 pub granted_still : (rep : WireRep) (m : Message) → due_to rep m ≡ 0 → granted_message rep m ≡ m
-granted_still rep m none = let copies = copies_still rep m.copies none in λ i. record { from = m.from; number = m.number; item = m.item; copies = copies i }
+granted_still rep m none = let copies = copies_still rep m.copies none in λ i. record { from = m.from; session = m.session; number = m.number; item = m.item; copies = copies i }
 
 -- a test without one reference
 abbrev pub but : WireRep → (WireRep → Bool) → WireRep → Bool

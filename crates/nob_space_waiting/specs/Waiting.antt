@@ -31,7 +31,7 @@ granted_copy rep copy = record { rep = copy.rep; loan = loan_after (is_same rep 
 
 -- a message once a reference is granted
 abbrev pub granted_message : WireRep → Message → Message
-granted_message rep message = record { from = message.from; number = message.number; item = message.item; copies = map (granted_copy rep) message.copies }
+granted_message rep message = record { from = message.from; session = message.session; number = message.number; item = message.item; copies = map (granted_copy rep) message.copies }
 
 -- how many loans of a reference are due to a message
 abbrev pub due_to : WireRep → Message → ℕ

@@ -33,6 +33,7 @@ pub fn lift(slots: &mut Slots<Entry>, alloc: Global, stamp: u64) -> Option<Entry
     let blank = Entry {
         message: Message {
             from: entry.message.from,
+            session: entry.message.session,
             number,
             item: Item::Settle(number),
             copies: List::from_vec(Vec::new(alloc)),

@@ -4,4 +4,4 @@ use Rattle.nob_check.proofs.fronts.items_to.Given as goal
 
 -- the items so far, and those among the others
 abbrev pub invariant-loop-sent_item : goal.invariant-loop-sent_item
-invariant-loop-sent_item l = l.items.items ++ items_to l.receiver (drop l.sent_item-index l.sent_items) ≡ items_to l.receiver l.sent_items
+invariant-loop-sent_item l = l.items.items ++ items_to l.receiver l.session (drop l.sent_item-index l.sent_items) ≡ items_to l.receiver l.session l.sent_items

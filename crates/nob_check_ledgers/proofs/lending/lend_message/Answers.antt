@@ -12,4 +12,4 @@ loop-place-preserved c =
     let now : c.loop-place.message.copies ≡ map change (take c.loop-place.place c.args.message.now.copies) ++ drop c.loop-place.place c.args.message.now.copies = ap (λ (m : Message). m.copies) c.loop-place.invariant in
     let is : c.index-as_slice-place.result ≡ get_or c.loop-place.message.copies c.loop-place.place c.index-as_slice-place.result = c.index-as_slice-place.is ∙ ap (λ (copies : List RefCopy). get_or copies c.loop-place.place c.index-as_slice-place.result) c.as_slice.ensures in
     let copies = c.set.ensures ∙ changed_next change c.args.message.now.copies c.loop-place.message.copies c.loop-place.place c.index-as_slice-place.result c.copy_after-copy.result now lt is c.copy_after-copy.ensures in
-    λ i. record { from = (c.loop-place.invariant i).from; number = (c.loop-place.invariant i).number; item = (c.loop-place.invariant i).item; copies = copies i }
+    λ i. record { from = (c.loop-place.invariant i).from; session = (c.loop-place.invariant i).session; number = (c.loop-place.invariant i).number; item = (c.loop-place.invariant i).item; copies = copies i }

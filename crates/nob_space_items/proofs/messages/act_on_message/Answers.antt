@@ -1,4 +1,4 @@
-use Rattle.std.proofs.Common.{rules, arith, ◌≡◌, ◌<◌, ◌≤◌, List, length, None, IsOk, refl, ap, sym, subst, ◌∙◌}
+use Rattle.std.proofs.Common.{rules, arith, ◌≡◌, ℕ, ◌<◌, ◌≤◌, List, length, None, IsOk, refl, ap, sym, subst, ◌∙◌}
 use Rattle.nob_ids.specs.declared.wire_rep.WireRep.{WireRep}
 use Rattle.nob_item.specs.Kinds.{counted_in}
 use Rattle.nob_model_types.specs.declared.deed.Deed.{Deed}
@@ -10,12 +10,12 @@ use Rattle.nob_space_state.specs.Parts.{state_of}
 use Rattle.nob_space_state.specs.Stands.{Stands}
 use Rattle.nob_space_state.proofs.Passing.{same_space, refused_as, wants_as, after_error}
 use Rattle.nob_space_items.specs.Growing.{AreAmong, HaveRoom}
-use Rattle.nob_space_items.specs.Messages.{wanted_refs, message_refusal}
+use Rattle.nob_space_items.specs.Messages.{wanted_refs, new_copies, message_refusal}
 use Rattle.nob_space_items.specs.Receiving.{CanReceive, Receives}
-use Rattle.nob_space_items.proofs.Message.{message_answer, act_is}
+use Rattle.nob_space_items.proofs.Message.{message_answer, message_of, act_is}
 use Rattle.nob_space_items.proofs.ReadItems.{item_few}
 use Rattle.nob_space_items.proofs.Ready.{owners_among, can_receive, grown_receives, new_ready}
-use Rattle.nob_space_items.proofs.Received.{message_of, receives_stand}
+use Rattle.nob_space_items.proofs.Received.{receives_stand}
 use Rattle.nob_space_items.proofs.messages.act_on_message.Goals as goal
 
 pub judge_message-requires : goal.judge_message-requires
@@ -71,9 +71,10 @@ receive-requires-clause-can c =
     (subst (λ (reps : List WireRep). message_refusal st reps ≡ None) reps_are c.in_ok-wanted.ensures.free) small new c.grow.ensures.same
     (subst (λ (reps : List WireRep). HaveRoom (length reps) new.sessions reps) given c.in_ok-grow.ensures.sessions)
     (subst (λ (reps : List WireRep). length reps ≤ new.table.surrogate_room) given c.in_ok-grow.ensures.table) in
-    subst (λ (here : Here). CanReceive here.space new (record { from = c.args.peer; number = c.args.number; item = c.args.item; copies = c.in_ok-copies.copies }) c.in_ok-dirties.dirties.items) (sym c.grow.ensures.here)
-    (subst (λ (copies : List RefCopy). CanReceive s new (record { from = c.args.peer; number = c.args.number; item = c.args.item; copies = copies }) c.in_ok-dirties.dirties.items) (sym c.in_ok-copies.ensures)
-    (subst (CanReceive s new (message_of s n st c.args.peer c.args.number c.args.item)) (sym dirties_are) can))
+    subst (λ (here : Here). CanReceive here.space new (record { from = c.args.peer; session = c.number-session.result; number = c.args.number; item = c.args.item; copies = c.in_ok-copies.copies }) c.in_ok-dirties.dirties.items) (sym c.grow.ensures.here)
+    (subst (λ (copies : List RefCopy). CanReceive s new (record { from = c.args.peer; session = c.number-session.result; number = c.args.number; item = c.args.item; copies = copies }) c.in_ok-dirties.dirties.items) (sym c.in_ok-copies.ensures)
+    (subst (λ (session : ℕ). CanReceive s new (record { from = c.args.peer; session = session; number = c.args.number; item = c.args.item; copies = new_copies s n st (counted_in c.args.item) }) c.in_ok-dirties.dirties.items) (sym c.number-session.ensures)
+    (subst (CanReceive s new (message_of s n st c.args.peer c.args.number c.args.item)) (sym dirties_are) can)))
 
 pub receive-requires-clause-new : goal.receive-requires-clause-new
 receive-requires-clause-new c =
@@ -86,9 +87,10 @@ receive-requires-clause-new c =
     let each = stands.ends.each in
     let small : n < 18446744073709551616 = omega (arith, fits, each) in
     let reps_are : c.in_ok-wanted.wanted ≡ wanted_refs s n st (counted_in c.args.item) = c.in_ok-wanted.ensures.wanted in
-    subst (λ (copies : List RefCopy). IsNew c.grow.new.parts.waiting (record { from = c.args.peer; number = c.args.number; item = c.args.item; copies = copies })) (sym c.in_ok-copies.ensures)
+    subst (λ (copies : List RefCopy). IsNew c.grow.new.parts.waiting (record { from = c.args.peer; session = c.number-session.result; number = c.args.number; item = c.args.item; copies = copies })) (sym c.in_ok-copies.ensures)
+    (subst (λ (session : ℕ). IsNew c.grow.new.parts.waiting (record { from = c.args.peer; session = session; number = c.args.number; item = c.args.item; copies = new_copies s n st (counted_in c.args.item) })) (sym c.number-session.ensures)
     (new_ready stands c.args.peer c.args.number c.args.item (c.requires.front c.requires.state.0 D stands) c.requires.message
-    (subst (λ (reps : List WireRep). message_refusal st reps ≡ None) reps_are c.in_ok-wanted.ensures.free) small (state_of c.grow.new.parts) c.grow.ensures.same c.grow.new.parts.waiting refl refl)
+    (subst (λ (reps : List WireRep). message_refusal st reps ≡ None) reps_are c.in_ok-wanted.ensures.free) small (state_of c.grow.new.parts) c.grow.ensures.same c.grow.new.parts.waiting refl refl))
 
 pub returns-clause-answer : goal.returns-clause-answer
 returns-clause-answer c limits D stands =
@@ -110,8 +112,9 @@ returns-clause-stands c limits D stands =
     let dirties_are : c.in_ok-dirties.dirties.items ≡ wanted_refs s n st (counted_in c.args.item) = c.in_ok-dirties.ensures ∙ c.as_slice.ensures ∙ reps_are in
     let receives : Receives s grown new (message_of s n st c.args.peer c.args.number c.args.item) (wanted_refs s n st (counted_in c.args.item)) =
     subst (Receives s grown new (message_of s n st c.args.peer c.args.number c.args.item)) dirties_are
-    (subst (λ (copies : List RefCopy). Receives s grown new (record { from = c.args.peer; number = c.args.number; item = c.args.item; copies = copies }) c.in_ok-dirties.dirties.items) c.in_ok-copies.ensures
-    (subst (λ (here : Here). Receives here.space grown new (record { from = c.args.peer; number = c.args.number; item = c.args.item; copies = c.in_ok-copies.copies }) c.in_ok-dirties.dirties.items) c.grow.ensures.here c.receive.ensures.receives)) in
+    (subst (λ (session : ℕ). Receives s grown new (record { from = c.args.peer; session = session; number = c.args.number; item = c.args.item; copies = new_copies s n st (counted_in c.args.item) }) c.in_ok-dirties.dirties.items) c.number-session.ensures
+    (subst (λ (copies : List RefCopy). Receives s grown new (record { from = c.args.peer; session = c.number-session.result; number = c.args.number; item = c.args.item; copies = copies }) c.in_ok-dirties.dirties.items) c.in_ok-copies.ensures
+    (subst (λ (here : Here). Receives here.space grown new (record { from = c.args.peer; session = c.number-session.result; number = c.args.number; item = c.args.item; copies = c.in_ok-copies.copies }) c.in_ok-dirties.dirties.items) c.grow.ensures.here c.receive.ensures.receives))) in
     same_space c.receive.new.parts.here c.args.parts.now.here (c.receive.ensures.here ∙ c.grow.ensures.here) (receives_stand stands c.args.peer c.args.number c.args.item front c.requires.message
     (grown_receives stands c.args.peer c.args.number c.args.item front c.requires.message
     (subst (λ (reps : List WireRep). message_refusal st reps ≡ None) reps_are c.in_ok-wanted.ensures.free) small grown c.grow.ensures.same new receives)

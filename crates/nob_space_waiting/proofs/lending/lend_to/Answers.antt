@@ -33,7 +33,7 @@ loop-place-preserved c =
           let more = pass_next (waits_for c.args.rep.now) c.args.message.now.copies c.loop-place.place c.index-as_slice-place.result true lt first waits in
           let lent = w.lent-is in
           record {
-            message = w.message-is ∙ (λ i. record { from = (c.loop-place.invariant.message i).from; number = (c.loop-place.invariant.message i).number; item = (c.loop-place.invariant.message i).item; copies = copies i });
+            message = w.message-is ∙ (λ i. record { from = (c.loop-place.invariant.message i).from; session = (c.loop-place.invariant.message i).session; number = (c.loop-place.invariant.message i).number; item = (c.loop-place.invariant.message i).item; copies = copies i });
             count = omega (arith, lent, count, more);
           }
       | else-waits_for w ↦
@@ -44,7 +44,7 @@ loop-place-preserved c =
           let more = pass_next (waits_for c.args.rep.now) c.args.message.now.copies c.loop-place.place c.index-as_slice-place.result false lt first waits in
           let lent = w.lent-is in
           record {
-            message = w.message-is ∙ (λ i. record { from = (c.loop-place.invariant.message i).from; number = (c.loop-place.invariant.message i).number; item = (c.loop-place.invariant.message i).item; copies = copies i });
+            message = w.message-is ∙ (λ i. record { from = (c.loop-place.invariant.message i).from; session = (c.loop-place.invariant.message i).session; number = (c.loop-place.invariant.message i).number; item = (c.loop-place.invariant.message i).item; copies = copies i });
             count = omega (arith, lent, count, more);
           }
     ]

@@ -4,6 +4,6 @@ use Rattle.nob_space_waiting.proofs.lending.lend_to.Given as goal
 
 abbrev pub invariant-loop-place : goal.invariant-loop-place
 invariant-loop-place l = record {
-  message : l.message ≡ record { from = l.fn.message.from; number = l.fn.message.number; item = l.fn.message.item; copies = map (granted_copy l.rep) (take l.place l.fn.message.copies) ++ drop l.place l.fn.message.copies };
+  message : l.message ≡ record { from = l.fn.message.from; session = l.fn.message.session; number = l.fn.message.number; item = l.fn.message.item; copies = map (granted_copy l.rep) (take l.place l.fn.message.copies) ++ drop l.place l.fn.message.copies };
   count : l.lent ≡ length (filter (waits_for l.rep) (take l.place l.fn.message.copies));
 }

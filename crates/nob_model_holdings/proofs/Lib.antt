@@ -1,0 +1,6 @@
+pub mod Lists
+pub mod Typing
+pub mod Hands
+pub mod Holding
+pub mod Granted
+pub mod Holdings

@@ -1,0 +1,162 @@
+-- What was sent and acted on, session by session, by one entry more: only what is sent or acted on in the present session grows.
+use Rattle.std.proofs.Common.{◌≡◌, ℕ, ◌+◌, ◌≤◌, ◌&&◌, Bool, true, false, cond, List, [], ◌∷◌, ◌++◌, length, map, Ok, refl, sym, ap, subst, ◌∙◌, inl, inr, arith}
+use Rattle.std.specs.Prelude.{◌==◌}
+use Rattle.std.proofs.lemmas.Bool.{eq-eqb, eqb-true}
+use Rattle.std.proofs.lemmas.List.{append-nil}
+use Rattle.nob_ids.specs.declared.limits.Limits.{Limits}
+use Rattle.nob_ids.specs.declared.reason.Reason.{Reason}
+use Rattle.nob_item.specs.declared.item.Item.{Item}
+use Rattle.nob_model_session.specs.End.{up_to, handed}
+use Rattle.nob_model_session.specs.End as end
+use Rattle.nob_model_session.specs.declared.entry.EndEntry.{EndEntry}
+use Rattle.nob_model_session.specs.declared.entry.EndEntry.TheVariants as ends
+use Rattle.nob_model_session.proofs.Sessions.{up_to_present}
+use Rattle.nob_model_types.specs.declared.entry.Entry.{Entry}
+use Rattle.nob_model_types.specs.declared.deed.Deed.{Deed}
+use Rattle.nob_model_types.specs.declared.deed.Deed.TheVariants as did
+use Rattle.nob_model_types.specs.declared.deed.Cause.{Cause}
+use Rattle.nob_model_types.specs.declared.deed.Cause.TheVariants as causes
+use Rattle.nob_model_types.specs.Sessions.{number, acted, item_at}
+use Rattle.nob_model_work.specs.Work.{work}
+use Rattle.nob_model_work.specs.Gifts.{gifts}
+use Rattle.nob_model_history.specs.Histories.{history_of}
+use Rattle.nob_model_history.specs.Ends.{items_to, payload_of, kind_of, with_sends, own_calls, call_of_closing, calls_at}
+use Rattle.nob_model_history.specs.Transit.{sent}
+use Rattle.nob_model_history.proofs.Sessions.{sends_number, number_is}
+use Rattle.nob_model_history.proofs.Numbered.{items_sent_in, gifts_sent_in, gifts_sent_now, payloads_handed}
+use Rattle.nob_model_journal.specs.Journals.{deeds_at, number_at, are_in_one, sent_in, sent_now, sent_to, acted_during, acted_in, acted_from}
+use Rattle.nob_model_journal.specs.Runs.{WorldRun}
+use Rattle.nob_model_invariant.specs.Typed.{AreOfTypes}
+use Rattle.nob_model_invariant.proofs.Entries.{grows}
+
+-- ---- what is sent
+
+-- what a deed gives to p is sent in the present session
+pub sent_in_more : (s n p k : ℕ) (deed : Deed) (D : List Deed) → items_sent_in p k (sent (history_of s n (deed ∷ D))) ≡ items_sent_in p k (sent (history_of s n D)) ++ cond (number p D == k) (items_to p (gifts s n deed D (work s n D))) []
+sent_in_more s n p k deed D = gifts_sent_in p k D (gifts s n deed D (work s n D)) (sent (history_of s n D))
+
+-- so what was sent in another stays
+pub sent_in_same : (s n p k : ℕ) (deed : Deed) (D : List Deed) → (number p D == k) ≡ false → items_sent_in p k (sent (history_of s n (deed ∷ D))) ≡ items_sent_in p k (sent (history_of s n D))
+sent_in_same s n p k deed D other =
+    sent_in_more s n p k deed D
+    ∙ ap (λ (b : Bool). items_sent_in p k (sent (history_of s n D)) ++ cond b (items_to p (gifts s n deed D (work s n D))) []) other
+    ∙ append-nil (items_sent_in p k (sent (history_of s n D)))
+
+-- and all that is given stands behind what was sent in the present one
+pub sent_now_more : (s n p : ℕ) (deed : Deed) (D : List Deed) → items_sent_in p (number p D) (sent (history_of s n (deed ∷ D))) ≡ items_sent_in p (number p D) (sent (history_of s n D)) ++ items_to p (gifts s n deed D (work s n D))
+sent_now_more s n p deed D = gifts_sent_now p D (gifts s n deed D (work s n D)) (sent (history_of s n D))
+
+-- what was sent in a session before stands in front of what is sent in it
+pub sent_grows : (n a b k : ℕ) (entry : Entry) (J : List Entry) → (more : List Item) × (sent_in n a b k (entry ∷ J) ≡ sent_in n a b k J ++ more)
+sent_grows n a b k entry J =
+    elim (grows a entry J) [
+      | inl same ↦ ([], ap (λ D. items_sent_in b k (sent (history_of a n D))) same ∙ sym (append-nil (sent_in n a b k J)))
+      | inr more ↦ (
+        cond (number_at a b J == k) (items_to b (gifts a n more.0 (deeds_at a J) (work a n (deeds_at a J)))) [],
+        ap (λ D. items_sent_in b k (sent (history_of a n D))) more.3 ∙ sent_in_more a n b k more.0 (deeds_at a J),
+      )
+    ]
+
+-- a space that isn't in a session sends nothing in it
+pub sent_other : (n a b k : ℕ) (entry : Entry) (J : List Entry) → (number_at a b (entry ∷ J) == k) ≡ false → sent_in n a b k (entry ∷ J) ≡ sent_in n a b k J
+sent_other n a b k entry J other =
+    elim (grows a entry J) [
+      | inl same ↦ ap (λ D. items_sent_in b k (sent (history_of a n D))) same
+      | inr more ↦ ap (λ D. items_sent_in b k (sent (history_of a n D))) more.3 ∙ sent_in_same a n b k more.0 (deeds_at a J) (ap (λ D. number b D == k) (sym more.3) ∙ other)
+    ]
+
+-- ---- what was handed on the end
+
+-- calls in the present session aren't up to the end of another
+sends_left : (k : ℕ) (items : List Item) (calls : List EndEntry) → (end.number calls == k) ≡ false → up_to k (with_sends items calls) ≡ up_to k calls
+sends_left k [] calls other = refl
+sends_left k (item ∷ items) calls other =
+    let call : EndEntry = ends.Send (payload_of item) (kind_of item) (Ok (length (handed calls) + 1)) in
+    sends_left k items (call ∷ calls) other
+    ∙ ap (λ (b : Bool). cond b (call ∷ calls) (up_to k calls)) other
+
+if_left : (k : ℕ) (own : Bool) (call : EndEntry) (calls : List EndEntry) → (end.number (call ∷ calls) == k) ≡ false → up_to k (cond own (call ∷ calls) calls) ≡ up_to k calls
+if_left k true call calls other = ap (λ (b : Bool). cond b (call ∷ calls) (up_to k calls)) other
+if_left k false call calls other = refl
+
+closing_left : (k p : ℕ) (own : Bool) (reason : Reason) (cause : Cause) (calls : List EndEntry) → (end.number calls == k) ≡ false → up_to k (cond own (call_of_closing p reason cause ∷ calls) calls) ≡ up_to k calls
+closing_left k p own reason causes.Item calls other = if_left k own _ calls other
+closing_left k p own reason (causes.Frame frame) calls other = if_left k own _ calls other
+closing_left k p own reason causes.Ticks calls other = if_left k own _ calls other
+closing_left k p own reason causes.Asked calls other = if_left k own _ calls other
+
+own_left : (k p : ℕ) (deed : Deed) (calls : List EndEntry) → (end.number calls == k) ≡ false → up_to k (own_calls p deed calls) ≡ up_to k calls
+own_left k p (did.Act q j) calls other = if_left k (q == p) _ calls other
+own_left k p (did.Transmit q frames) calls other = if_left k (q == p) _ calls other
+own_left k p (did.Arrive frame count) calls other = if_left k (frame.from == p) _ calls other
+own_left k p (did.Tick q) calls other = if_left k (q == p) _ calls other
+own_left k p (did.Closing q reason cause) calls other = closing_left k p (q == p) reason cause calls other
+own_left k p deed calls other = refl
+
+calls_left : (s n p k : ℕ) (deed : Deed) (D : List Deed) → (number p D == k) ≡ false → up_to k (calls_at p (history_of s n (deed ∷ D))) ≡ up_to k (calls_at p (history_of s n D))
+calls_left s n p k deed D other =
+    let given : List Item = items_to p (gifts s n deed D (work s n D)) in
+    let before : List EndEntry = calls_at p (history_of s n D) in
+    own_left k p deed (with_sends given before) (ap (λ (m : ℕ). m == k) (sends_number given before ∙ number_is s n p D) ∙ other)
+    ∙ sends_left k given before (ap (λ (m : ℕ). m == k) (number_is s n p D) ∙ other)
+
+-- what was handed up to the end of a session are the payloads of what was sent in it
+pub handed_in : (s n p k : ℕ) (D : List Deed) → handed (up_to k (calls_at p (history_of s n D))) ≡ map payload_of (items_sent_in p k (sent (history_of s n D)))
+handed_in s n p k [] = refl
+handed_in s n p k (deed ∷ D) = by (number p D == k) refl (handed_in s n p k D)
+  where
+    by : (b : Bool) → (number p D == k) ≡ b → handed (up_to k (calls_at p (history_of s n D))) ≡ map payload_of (items_sent_in p k (sent (history_of s n D))) → handed (up_to k (calls_at p (history_of s n (deed ∷ D)))) ≡ map payload_of (items_sent_in p k (sent (history_of s n (deed ∷ D))))
+    by true is before =
+        let here : number p D ≡ k = eqb-true (number p D) k is in
+        ap handed (up_to_present k (calls_at p (history_of s n (deed ∷ D))) (number_is s n p (deed ∷ D) ∙ here))
+        ∙ payloads_handed s n p (deed ∷ D)
+        ∙ ap (λ (m : ℕ). map payload_of (items_sent_in p m (sent (history_of s n (deed ∷ D))))) here
+    by false other before =
+        ap handed (calls_left s n p k deed D other)
+        ∙ before
+        ∙ ap (map payload_of) (sym (sent_in_same s n p k deed D other))
+
+-- ---- what is acted on
+
+-- what was acted on is what was acted on in the present session
+pub acted_is : (p : ℕ) (D : List Deed) → acted p D ≡ acted_during p (number p D) D
+acted_is p [] = refl
+acted_is p (did.Act q j ∷ D) =
+    ap (λ pairs. cond (q == p) (pairs ++ (j, item_at p j D) ∷ []) pairs) (acted_is p D)
+    ∙ by (q == p) (number p D == number p D) (eq-eqb (number p D) (number p D) refl)
+  where
+    by : (own now : Bool) → now ≡ true → cond own (acted_during p (number p D) D ++ (j, item_at p j D) ∷ []) (acted_during p (number p D) D) ≡ cond (own && now) (acted_during p (number p D) D ++ (j, item_at p j D) ∷ []) (acted_during p (number p D) D)
+    by true true is = refl
+    by true false is = cc
+    by false now is = refl
+acted_is p (_ ∷ D) = acted_is p D
+
+pub acted_from_is : (a b : ℕ) (J : List Entry) → acted_from a b J ≡ acted_in a b (number_at b a J) J
+acted_from_is a b J = acted_is a (deeds_at b J)
+
+-- ---- spaces that are in one session
+
+-- what a sent in the session in which b is, where a is in that too
+pub sent_one : (n a b : ℕ) (J : List Entry) → are_in_one a b J ≡ true → sent_to n a b J ≡ sent_now n a b J
+sent_one n a b J one = ap (λ (k : ℕ). sent_in n a b k J) (sym (eqb-true (number_at a b J) (number_at b a J) one))
+
+pub sent_back : (n a b : ℕ) (J : List Entry) → are_in_one a b J ≡ true → sent_to n b a J ≡ sent_now n b a J
+sent_back n a b J one = ap (λ (k : ℕ). sent_in n b a k J) (eqb-true (number_at a b J) (number_at b a J) one)
+
+-- ---- each session
+
+-- what is no more than something else in the session in which a is, is so in each
+pub bounded_in : (n a b k : ℕ) (limits : ℕ → Limits) (f g : List Item → ℕ) → f [] ≡ 0 → ((xs ys : List Item) → g xs ≤ g (xs ++ ys)) → ((J : List Entry) → WorldRun n limits J → AreOfTypes J → f (sent_now n a b J) ≤ g (sent_to n b a J)) → (J : List Entry) → WorldRun n limits J → AreOfTypes J → f (sent_in n a b k J) ≤ g (sent_in n b a k J)
+bounded_in n a b k limits f g none grow now [] run typed = none_few none
+  where
+    none_few : f [] ≡ 0 → f [] ≤ g []
+    none_few none = omega (arith, none)
+bounded_in n a b k limits f g none grow now (entry ∷ J) run typed = by (number_at a b (entry ∷ J) == k) refl (bounded_in n a b k limits f g none grow now J run.1 typed.1)
+  where
+    by : (is : Bool) → (number_at a b (entry ∷ J) == k) ≡ is → f (sent_in n a b k J) ≤ g (sent_in n b a k J) → f (sent_in n a b k (entry ∷ J)) ≤ g (sent_in n b a k (entry ∷ J))
+    by true is before = subst (λ (m : ℕ). f (sent_in n a b m (entry ∷ J)) ≤ g (sent_in n b a m (entry ∷ J))) (eqb-true (number_at a b (entry ∷ J)) k is) (now (entry ∷ J) run typed)
+    by false other before =
+        let same : f (sent_in n a b k (entry ∷ J)) ≡ f (sent_in n a b k J) = ap f (sent_other n a b k entry J other) in
+        let more = sent_grows n b a k entry J in
+        let longer : g (sent_in n b a k J) ≤ g (sent_in n b a k (entry ∷ J)) = subst (λ all. g (sent_in n b a k J) ≤ g all) (sym more.1) (grow (sent_in n b a k J) more.0) in
+        omega (arith, before, same, longer)
