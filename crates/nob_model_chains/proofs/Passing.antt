@@ -68,3 +68,11 @@ wrong_is s n before x number stamp L b some is told right =
     let stamps : stamp ≡ last_stamp 0 (before ++ x.entries) = is ∙ sym (last_here before x.entries some) in
     let same : b ≡ is_right_or_none s n (last_stamp 0 (before ++ x.entries)) (journal_at s (before ++ x.entries)) x.seal = right ∙ ap (λ (k : ℕ). is_right_or_none s n k L x.seal) stamps ∙ ap (λ (es : List Entry). is_right_or_none s n (last_stamp 0 (before ++ x.entries)) es x.seal) told in
     ap (λ (r : Bool). if r then None else Some number) (sym same)
+
+-- which seal is wrong among those that are left, where it is known whether the next one is right
+pub seal_next : (s n : ℕ) (segments : List Segment) (i : ℕ) (x : Segment) (stamp : ℕ) (L : List Entry) (b : Bool) → slice_get segments i ≡ Some x → 0 < length x.entries → stamp ≡ last_stamp 0 x.entries → L ≡ journal_at s (entries_of (take i segments) ++ x.entries) → b ≡ is_right_or_none s n stamp L x.seal
+    → wrong_left s n segments i ≡ option_or (if b then None else Some (i + 1)) (wrong_left s n segments (i + 1))
+seal_next s n segments i x stamp L b is some stamp_is told right =
+    let left : Option ℕ = wrong_left s n segments (i + 1) in
+    wrong_next s n segments i x is
+    ∙ ap (λ (o : Option ℕ). option_or o left) (ap (λ (es : List Stamped). wrong_behind s n es (i + 1) x.seal) (entries_more segments i x is) ∙ wrong_is s n (entries_of (take i segments)) x (i + 1) stamp L b some stamp_is told right)
