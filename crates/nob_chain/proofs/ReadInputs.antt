@@ -2,21 +2,21 @@
 use Rattle.std.proofs.Common.{◌≡◌, ℕ, ◌<◌, List, [], ◌∷◌, ◌++◌, length, codes, refl, sym, ap, subst, ◌∙◌, append_assoc, length-append, arith, Result, Ok, Err}
 use Rattle.std.specs.Prelude.{IsErrAnd}
 use Rattle.std.proofs.lemmas.List.{append-nil}
+use Rattle.nob_ids.specs.declared.limits.Limits.{Limits}
 use Rattle.nob_frame.specs.declared.version.Version.{Version}
 use Rattle.nob_frame.specs.declared.version.Version.TheVariants.{One, Two}
 use Rattle.nob_trace.specs.declared.trace.Trace.{Trace}
-use Rattle.nob_trace.specs.declared.fault.TraceFault.{TraceFault}
-use Rattle.nob_trace.specs.Traces.{head_word, head_of, head_text, entries_text, trace_text, IsTrace}
-use Rattle.nob_trace.specs.Reading.{TextFault}
+use Rattle.nob_trace.specs.Traces.{head_word, trace_text, IsTrace}
 use Rattle.nob_trace.proofs.ReadTraces.{shorter}
+use Rattle.nob_chain.specs.declared.segment.Segment.{Segment}
 use Rattle.nob_chain.specs.declared.chain.ChainParts.{ChainParts}
 use Rattle.nob_chain.specs.declared.fault.ChainFault.{ChainFault}
 use Rattle.nob_chain.specs.declared.fault.ChainError.{ChainError}
 use Rattle.nob_chain.specs.declared.fault.ChainError.TheVariants.{Fault, OutOfMemory}
 use Rattle.nob_chain.specs.Chains as chains
-use Rattle.nob_chain.specs.Chains.{chain_text, IsChain}
-use Rattle.nob_chain.specs.Reading.{FrontFault, Answers, Finds}
-use Rattle.nob_chain.specs.Inputs.{Spells, AreSpelt, BeginsAsChain, of_trace, fault_as, StartFault}
+use Rattle.nob_chain.specs.Chains.{whole, chain_text, IsChain}
+use Rattle.nob_chain.specs.Reading.{Answers, Finds}
+use Rattle.nob_chain.specs.Inputs.{Spells, AreSpelt, BeginsAsChain, of_trace}
 
 -- what is answered, as another statement of it
 pub map_answers : {X : Type 0} (P Q : X → Type 0) (F G : ChainFault → Type 0) (r : Result X ChainError) → Answers P F r → ((x : X) → P x → Q x) → ((fault : ChainFault) → F fault → G fault) → Answers Q G r
@@ -24,21 +24,28 @@ map_answers P Q F G (Ok x) is map mapped = map x is
 map_answers P Q F G (Err (Fault fault)) is map mapped = mapped fault is
 map_answers P Q F G (Err OutOfMemory) is map mapped = tt
 
+-- a chain with the parts of a trace
+pub chain_is : (chain : ChainParts) (trace : Trace) → chain.space ≡ trace.space → chain.n ≡ trace.n → chain.limits ≡ trace.limits → chain.segments ≡ whole trace.entries → chain ≡ of_trace trace
+chain_is chain trace space n limits segments =
+    let made : ℕ → ℕ → Limits → List Segment → ChainParts = λ s m l xs. record { space = s; n = m; limits = l; segments = xs } in
+    ap (λ (x : ℕ). made x chain.n chain.limits chain.segments) space
+    ∙ ap (λ (x : ℕ). made trace.space x chain.limits chain.segments) n
+    ∙ ap (λ (x : Limits). made trace.space trace.n x chain.segments) limits
+    ∙ ap (λ (x : List Segment). made trace.space trace.n trace.limits x) segments
+
 -- ---- chains and traces begin otherwise
 
 -- a chain begins as chains do
 pub chain_begins : (chain : ChainParts) (text rest : List ℕ) → text ≡ chain_text chain ++ rest → BeginsAsChain text
 chain_begins chain text rest is = (_, is)
 
-not_so : (version : Version) (more rest : List ℕ) → head_word version ++ more ≡ codes "chain " ++ rest → ⊥
-not_so One more rest is = absurd cc
-not_so Two more rest is = absurd cc
+not_so : (version : Version) (front lines left rest : List ℕ) → ((head_word version ++ front) ++ lines) ++ left ≡ codes "chain " ++ rest → ⊥
+not_so One front lines left rest is = absurd cc
+not_so Two front lines left rest is = absurd cc
 
 -- a trace doesn't
 pub trace_begins : (trace : Trace) (text rest : List ℕ) → text ≡ trace_text trace ++ rest → BeginsAsChain text → ⊥
-trace_begins trace text rest is begins =
-    let head = head_of trace in
-    not_so trace.version _ begins.0 (sym (append_assoc (head_word trace.version) _ rest ∙ refl) ∙ sym is ∙ begins.1)
+trace_begins trace text rest is begins = not_so trace.version _ _ rest begins.0 (sym is ∙ begins.1)
 
 -- ---- one after the other
 

@@ -41,6 +41,7 @@ fn fault_as(fault: TraceFault) -> ChainFault
 }
 
 // A trace as a chain. Only memory fails it.
+#[tactic(auto, using(crate::proofs::ReadInputs::chain_is))]
 fn whole_chain(alloc: Global, trace: Trace) -> Result<Chain, ChainError>
     ensures { reading.Finds (λ chain. chain ≡ spec.of_trace trace) result }
 {

@@ -1,7 +1,7 @@
 //! A seal beside what a space says of itself.
 
 ghost use Rattle.std.specs.Prelude.{◌≡◌, List, true};
-ghost use Rattle.std.specs.List.{AllByRecursion, list_all};
+ghost use Rattle.std.specs.List.{list_all};
 ghost use Rattle.nob_model_types.specs.declared.entry.Entry.{Entry as EntryOf};
 ghost use Rattle.nob_model_types.specs.Sessions.{is_peer};
 ghost use Rattle.nob_model_history.specs.Histories.{history};
@@ -17,6 +17,7 @@ use nob_space::Space;
 const FIRST_SESSION: u32 = 1;
 
 // Whether it is said of a peer what a space says of it.
+#[tactic(auto, using(crate::proofs::Peers::said_by))]
 fn is_said(space: &Space, peer: &PeerSeal) -> bool
     requires { is_peer space.now.id space.now.n peer.now.peer ≡ true }
     ensures { (L : List EntryOf) → StandsFor space.now L
