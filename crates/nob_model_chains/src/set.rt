@@ -1,6 +1,6 @@
 //! Which chains belong together.
 
-ghost use Rattle.std.specs.Prelude.{◌≡◌, map};
+ghost use Rattle.std.specs.Prelude.{◌≡◌, ◌&&◌, nat_le, length, map};
 ghost use Rattle.std.specs.List.{list_all};
 ghost use Rattle.nob_chain.specs.Chains.{joined};
 ghost use Rattle.nob_model_traces.specs.Apart as apart;
@@ -44,10 +44,19 @@ fn are_all_of(count: usize, chains: &[Chain]) -> bool
     chains.iter().all(|chain| is_one_of(count, chain))
 }
 
+// Whether there are chains, one of each space, by what is said of each.
+fn are_ones(chains: &[Chain]) -> bool
+    ensures { result ≡ (nat_le 1 (length chains.now)
+        && list_all (λ chain. words.is_one_of (length chains.now) (joined chain)) chains.now
+        && apart.are_apart (map joined chains.now)) }
+{
+    1 <= chains.len() && are_all_of(chains.len(), chains) && are_apart(chains)
+}
+
 /// Whether there are chains, one of each space, and each says that there are as many spaces. It
 /// compares each two of them, where there are no more than 32.
 pub fn are_one_each(chains: &[Chain]) -> bool
     ensures { result ≡ words.are_one_each (map joined chains.now) }
 {
-    1 <= chains.len() && are_all_of(chains.len(), chains) && are_apart(chains)
+    are_ones(chains)
 }
