@@ -6,7 +6,13 @@ use Rattle.nob_ids.specs.declared.limits.Limits.{Limits}
 use Rattle.nob_frame.specs.declared.version.Version.{Version}
 use Rattle.nob_frame.specs.declared.version.Version.TheVariants.{One, Two}
 use Rattle.nob_trace.specs.declared.trace.Trace.{Trace}
+use Rattle.nob_trace.specs.declared.fault.TraceFault.{TraceFault}
+use Rattle.nob_trace.specs.declared.fault.TraceError.{TraceError}
+use Rattle.nob_trace.specs.declared.fault.TraceError.TheVariants as trace_errors
+use Rattle.nob_trace.specs.Reading as traces
+use Rattle.nob_trace.specs.Reading.{TextFault}
 use Rattle.nob_trace.specs.Traces.{head_word, trace_text, IsTrace}
+use Rattle.nob_trace.proofs.OneEvent.{key}
 use Rattle.nob_trace.proofs.ReadTraces.{shorter}
 use Rattle.nob_chain.specs.declared.segment.Segment.{Segment}
 use Rattle.nob_chain.specs.declared.chain.ChainParts.{ChainParts}
@@ -15,8 +21,8 @@ use Rattle.nob_chain.specs.declared.fault.ChainError.{ChainError}
 use Rattle.nob_chain.specs.declared.fault.ChainError.TheVariants.{Fault, OutOfMemory}
 use Rattle.nob_chain.specs.Chains as chains
 use Rattle.nob_chain.specs.Chains.{whole, chain_text, IsChain}
-use Rattle.nob_chain.specs.Reading.{Answers, Finds}
-use Rattle.nob_chain.specs.Inputs.{Spells, AreSpelt, BeginsAsChain, of_trace}
+use Rattle.nob_chain.specs.Reading.{Answers, Explains, Finds}
+use Rattle.nob_chain.specs.Inputs.{Spells, AreSpelt, BeginsAsChain, of_trace, fault_as, error_as}
 
 -- what is answered, as another statement of it
 pub map_answers : {X : Type 0} (P Q : X → Type 0) (F G : ChainFault → Type 0) (r : Result X ChainError) → Answers P F r → ((x : X) → P x → Q x) → ((fault : ChainFault) → F fault → G fault) → Answers Q G r
@@ -33,6 +39,20 @@ chain_is chain trace space n limits segments =
     ∙ ap (λ (x : Limits). made trace.space trace.n x chain.segments) limits
     ∙ ap (λ (x : List Segment). made trace.space trace.n trace.limits x) segments
 
+-- ---- the error of a trace
+
+-- what a fault of a trace says of a chain's
+abbrev pub IsOwn : List ℕ → ChainFault → Type 0
+IsOwn text fault = (own : TraceFault) × TextFault text own × (fault ≡ fault_as own)
+
+pub error_found : (text : List ℕ) (e : TraceError) (r : ChainError) → r ≡ error_as e → traces.Explains (TextFault text) e → Explains (IsOwn text) r
+error_found text (trace_errors.Fault fault) r is wrong = subst (Explains (IsOwn text)) (sym is) (fault, wrong, refl)
+error_found text trace_errors.OutOfMemory r is wrong = subst (Explains (IsOwn text)) (sym is) tt
+
+pub error_only : {X Y : Type 0} (P : X → Type 0) (Q : Y → Type 0) (e : TraceError) (r : ChainError) → r ≡ error_as e → traces.Finds P (Err e) → Finds Q (Err r)
+error_only P Q (trace_errors.Fault fault) r is finds = absurd finds
+error_only P Q trace_errors.OutOfMemory r is finds = subst (λ (f : ChainError). Finds Q (Err f)) (sym is) tt
+
 -- ---- chains and traces begin otherwise
 
 -- a chain begins as chains do
@@ -40,8 +60,8 @@ pub chain_begins : (chain : ChainParts) (text rest : List ℕ) → text ≡ chai
 chain_begins chain text rest is = (_, is)
 
 not_so : (version : Version) (front lines left rest : List ℕ) → ((head_word version ++ front) ++ lines) ++ left ≡ codes "chain " ++ rest → ⊥
-not_so One front lines left rest is = absurd cc
-not_so Two front lines left rest is = absurd cc
+not_so One front lines left rest is = absurd (let k = ap key is in omega (arith, k))
+not_so Two front lines left rest is = absurd (let k = ap key is in omega (arith, k))
 
 -- a trace doesn't
 pub trace_begins : (trace : Trace) (text rest : List ℕ) → text ≡ trace_text trace ++ rest → BeginsAsChain text → ⊥
@@ -121,9 +141,9 @@ pub unread_next : (left : List ℕ) (others : List ChainParts) (e : ChainError) 
 unread_next left [] e some are unread = absurd (some are)
 unread_next left (u ∷ others) e some are unread = unread are.0 are.1 u are.2 are.3
 
-pub by_error : {X : Type 0} (P : X → Type 0) (e : ChainError) → Finds P (Err e) → e ≡ OutOfMemory
-by_error P OutOfMemory finds = refl
-by_error P (Fault fault) finds = absurd finds
+pub by_error : (e : ChainError) → Finds (λ (x : Unit {0}). Unit {0}) (Err e) → e ≡ OutOfMemory
+by_error OutOfMemory finds = refl
+by_error (Fault fault) finds = absurd finds
 
 pub passed : {X : Type 0} (P : X → Type 0) (r : Result X ChainError) (e : ChainError) → IsErrAnd r (λ f. f ≡ e) → e ≡ OutOfMemory → Finds P r
 passed P (Ok x) e is memory = absurd is

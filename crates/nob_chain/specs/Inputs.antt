@@ -3,11 +3,15 @@ use Rattle.std.specs.Prelude.{◌≡◌, ◌≢◌, ℕ, List, [], ◌∷◌, �
 use Rattle.nob_trace.specs.declared.trace.Trace.{Trace}
 use Rattle.nob_trace.specs.declared.fault.TraceFault.{TraceFault}
 use Rattle.nob_trace.specs.declared.fault.TraceFault.TheVariants as faults
+use Rattle.nob_trace.specs.declared.fault.TraceError.{TraceError}
+use Rattle.nob_trace.specs.declared.fault.TraceError.TheVariants as trace_errors
 use Rattle.nob_trace.specs.Traces.{trace_text, IsTrace}
 use Rattle.nob_trace.specs.Reading.{TextFault}
 use Rattle.nob_chain.specs.declared.chain.ChainParts.{ChainParts}
 use Rattle.nob_chain.specs.declared.fault.ChainFault.{ChainFault}
 use Rattle.nob_chain.specs.declared.fault.ChainFault.TheVariants as chain_faults
+use Rattle.nob_chain.specs.declared.fault.ChainError.{ChainError}
+use Rattle.nob_chain.specs.declared.fault.ChainError.TheVariants as chain_errors
 use Rattle.nob_chain.specs.Chains.{whole, chain_text, IsChain}
 use Rattle.nob_chain.specs.Reading.{FrontFault}
 
@@ -38,6 +42,11 @@ fault_as faults.Entry = chain_faults.Entry
 fault_as faults.Stamp = chain_faults.Stamp
 fault_as faults.Trailing = chain_faults.Trailing
 fault_as faults.Version = chain_faults.Entry
+
+-- the error of a trace as one of a chain
+abbrev pub error_as : TraceError → ChainError
+error_as (trace_errors.Fault fault) = chain_errors.Fault (fault_as fault)
+error_as trace_errors.OutOfMemory = chain_errors.OutOfMemory
 
 -- why a text begins neither with a chain nor with a trace: it is judged as a chain where it begins as one, and else as a trace
 pub data StartFault (text : List ℕ) (fault : ChainFault) : Type 0 where

@@ -40,6 +40,16 @@ fn fault_as(fault: TraceFault) -> ChainFault
     }
 }
 
+// The error of a trace as one of a chain.
+fn error_as(error: TraceError) -> ChainError
+    ensures { result ≡ spec.error_as error }
+{
+    match error {
+        TraceError::Fault(fault) => ChainError::Fault(fault_as(fault)),
+        TraceError::OutOfMemory => ChainError::OutOfMemory,
+    }
+}
+
 // A trace as a chain. Only memory fails it.
 #[tactic(auto, using(crate::proofs::ReadInputs::chain_is))]
 fn whole_chain(alloc: Global, trace: Trace) -> Result<Chain, ChainError>
@@ -65,8 +75,7 @@ fn trace_front(alloc: Global, text: &[u8]) -> Result<(Chain, &[u8]), ChainError>
             let chain = whole_chain(alloc, trace)?;
             Ok((chain, rest))
         }
-        Err(TraceError::Fault(fault)) => Err(ChainError::Fault(fault_as(fault))),
-        Err(TraceError::OutOfMemory) => Err(ChainError::OutOfMemory),
+        Err(error) => Err(error_as(error)),
     }
 }
 

@@ -18,7 +18,7 @@ pub returns-in_err-chain-clause-only : goal.returns-in_err-chain-clause-only
 returns-in_err-chain-clause-only c all are =
     let r = c.loop-left.invariant.1 all are in
     passed _ c.from_residual.result c.in_err-chain.field-0.0 c.from_residual.ensures.1
-    (unread_next c.loop-left.left.now r.0 c.in_err-chain.field-0.0 (λ e. not_empty c.loop-left.left.now c.is_empty.result e c.is_empty.ensures c.loop-left-test.true) r.2 (λ front rest chain spells text. by_error _ _ (c.in_err-chain.ensures.only front rest chain spells text)))
+    (unread_next c.loop-left.left.now r.0 c.in_err-chain.field-0.0 (λ e. not_empty c.loop-left.left.now c.is_empty.result e c.is_empty.ensures c.loop-left-test.true) r.2 (λ front rest chain spells text. by_error _ (c.in_err-chain.ensures.only front rest chain spells text)))
 
 pub loop-left-preserved : goal.loop-left-preserved
 loop-left-preserved c =
