@@ -1,6 +1,6 @@
 //! A seal beside what a space says of itself.
 
-ghost use Rattle.std.specs.Prelude.{◌≡◌, List, true};
+ghost use Rattle.std.specs.Prelude.{◌≡◌, ◌&&◌, ◌==◌, List, true};
 ghost use Rattle.std.specs.List.{list_all};
 ghost use Rattle.nob_model_types.specs.declared.entry.Entry.{Entry as EntryOf};
 ghost use Rattle.nob_model_types.specs.Sessions.{is_peer};
@@ -11,23 +11,32 @@ ghost use Rattle.nob_chain_check.specs.Running.{ArePeers, HasPeers, with_wrong};
 
 use nob_chain::{PeerSeal, Seal};
 use nob_model_chains::same_ending;
+use nob_model_types::Tally;
 use nob_space::Space;
 
 // The number of each session: no event opens one anew.
 const FIRST_SESSION: u32 = 1;
 
+// Whether it is said of a peer what a tally says of its first session.
+fn is_as(peer: &PeerSeal, tally: &Tally) -> bool
+    ensures { result ≡ (peer.now.session == 1 && peer.now.sent == tally.now.sent
+        && peer.now.acted == tally.now.acted
+        && words.same_ending peer.now.closed tally.now.closed) }
+{
+    peer.session == FIRST_SESSION
+        && peer.sent == tally.sent
+        && peer.acted == tally.acted
+        && same_ending(peer.closed, tally.closed)
+}
+
 // Whether it is said of a peer what a space says of it.
-#[tactic(auto, using(crate::proofs::Peers::said_by))]
 fn is_said(space: &Space, peer: &PeerSeal) -> bool
     requires { is_peer space.now.id space.now.n peer.now.peer ≡ true }
     ensures { (L : List EntryOf) → StandsFor space.now L
         → result ≡ words.is_said (history space.now.id space.now.n L) peer.now }
 {
     let tally = space.tally(peer.peer);
-    peer.session == FIRST_SESSION
-        && peer.sent == tally.sent
-        && peer.acted == tally.acted
-        && same_ending(peer.closed, tally.closed)
+    is_as(peer, &tally)
 }
 
 // Whether it is said of each of these peers what a space says of it.

@@ -1,11 +1,39 @@
-use Rattle.std.proofs.Common.{List, sym, subst, ◌∙◌}
+use Rattle.std.proofs.Common.{◌≡◌, true, List, map, Some, None, sym, ap, subst, ◌∙◌}
 use Rattle.nob_model_types.specs.declared.entry.Entry.{Entry}
 use Rattle.nob_trace.specs.declared.trace.Trace.{Trace}
 use Rattle.nob_model_traces.specs.Merged.{IsMerged}
 use Rattle.nob_model_traces.specs.Origins.{HaveOrigins, IsOriginFault}
+use Rattle.nob_model_traces.specs.Traces.{are_one_each}
+use Rattle.nob_chain.specs.declared.chain.ChainParts.{ChainParts}
+use Rattle.nob_chain.specs.Chains.{joined}
 use Rattle.nob_model_chains.specs.Lowest.{IsLowest}
 use Rattle.nob_model_chains.specs.Faults.{IsFault}
 use Rattle.nob_model_chains.proofs.Faulting.{accepted_of, lost_of, part_fault}
 use Rattle.nob_chain_check.specs.Running.{IsRightAndSealed}
 use Rattle.nob_chain_check.proofs.Accepting.{is_right}
 use Rattle.nob_chain_check.proofs.checking.merged_of.Goals as goal
+
+pub returns-in-Some-clause-checked : goal.returns-in-Some-clause-checked
+returns-in-Some-clause-checked c =
+    let chains = c.args.chains.items in
+    let ones : are_one_each (map joined chains) ≡ true = ap (λ (cs : List ChainParts). are_one_each (map joined cs)) (sym c.as_slice.ensures.value) ∙ sym c.are_one_each.ensures ∙ c.if-not-are_one_each.false in
+    let found = subst (λ (cs : List ChainParts). IsLowest IsRightAndSealed cs (Some c.in-Some.wrong)) c.as_slice-2.ensures.value (subst (IsLowest IsRightAndSealed c.as_slice-2.result.now) c.in-Some.is c.in_ok-wrong.ensures) in
+    subst (IsFault chains) (sym c.fault_of.ensures) (part_fault chains c.in-Some.wrong.space c.in-Some.wrong.part ones found)
+
+pub returns-in-Some-2-clause-checked : goal.returns-in-Some-2-clause-checked
+returns-in-Some-2-clause-checked c =
+    let chains = c.args.chains.items in
+    let ones : are_one_each (map joined chains) ≡ true = ap (λ (cs : List ChainParts). are_one_each (map joined cs)) (sym c.as_slice.ensures.value) ∙ sym c.are_one_each.ensures ∙ c.if-not-are_one_each.false in
+    let right = subst (λ (cs : List ChainParts). IsLowest IsRightAndSealed cs None) c.as_slice-2.ensures.value (subst (IsLowest IsRightAndSealed c.as_slice-2.result.now) c.in_default.is c.in_ok-wrong.ensures) in
+    let is = subst (λ (ts : List Trace). IsMerged ts c.in_ok-merged.merged.items) (c.as_slice-4.ensures.value ∙ c.in_ok-traces.ensures) c.in_ok-merged.ensures in
+    let said = subst (λ (es : List Entry). IsOriginFault es c.in-Some-2.fault) c.as_slice-5.ensures.value c.in-Some-2.ensures in
+    lost_of IsRightAndSealed is_right chains c.in_ok-merged.merged.items c.in-Some-2.fault ones right is said
+
+pub returns-clause-checked : goal.returns-clause-checked
+returns-clause-checked c =
+    let chains = c.args.chains.items in
+    let ones : are_one_each (map joined chains) ≡ true = ap (λ (cs : List ChainParts). are_one_each (map joined cs)) (sym c.as_slice.ensures.value) ∙ sym c.are_one_each.ensures ∙ c.if-not-are_one_each.false in
+    let right = subst (λ (cs : List ChainParts). IsLowest IsRightAndSealed cs None) c.as_slice-2.ensures.value (subst (IsLowest IsRightAndSealed c.as_slice-2.result.now) c.in_default.is c.in_ok-wrong.ensures) in
+    let is = subst (λ (ts : List Trace). IsMerged ts c.in_ok-merged.merged.items) (c.as_slice-4.ensures.value ∙ c.in_ok-traces.ensures) c.in_ok-merged.ensures in
+    let said = subst HaveOrigins c.as_slice-5.ensures.value c.in_default-2.ensures in
+    accepted_of IsRightAndSealed is_right chains c.in_ok-merged.merged.items ones right is said
