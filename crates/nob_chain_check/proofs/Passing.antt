@@ -106,7 +106,7 @@ passed_next chain i passed more stamp x wrong next old new kept is has stamp_is 
     let part = part_at chain.space chain.n chain.segments i x kept.parts is in
     let own : last_stamp 0 front ≡ last_stamp 0 x.entries = ap (last_stamp 0) (entries_more chain.segments i x is) ∙ last_here (entries_of (take i chain.segments)) x.entries part.filled in
     let right : is_right_or_none new.id new.n stamp told x.seal ≡ is_right_or_none chain.space chain.n (last_stamp 0 front) told x.seal =
-        ap (λ (s : ℕ). is_right_or_none s new.n stamp told x.seal) here.id ∙ ap (λ (n : ℕ). is_right_or_none chain.space n stamp told x.seal) here.n ∙ ap (λ (k : ℕ). is_right_or_none chain.space chain.n k told x.seal) (stamp_is ∙ sym own) in
+    ap (λ (s : ℕ). is_right_or_none s new.n stamp told x.seal) here.id ∙ ap (λ (n : ℕ). is_right_or_none chain.space n stamp told x.seal) here.n ∙ ap (λ (k : ℕ). is_right_or_none chain.space chain.n k told x.seal) (stamp_is ∙ sym own) in
     let found : next ≡ option_or wrong (wrong_behind chain.space chain.n front (i + 1) x.seal) = says told (stands_now chain (i + 1) new here) ∙ ap (λ (b : Bool). with_wrong wrong (i + 1) b) right in
     let left = wrong_left chain.space chain.n chain.segments (i + 1) in
     record {

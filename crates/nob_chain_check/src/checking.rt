@@ -76,10 +76,10 @@ fn merged_of(alloc: Global, chains: Vec<Chain>) -> Result<Vec<Entry>, SetError>
 /// C4 they aren't one of each space, each of as many spaces as there are; then, chain by chain in
 /// order of space, C1 a result anywhere in it isn't the right one, or else C5 a seal isn't what the
 /// space says of itself behind the entries up to it; in the order of the merged entries, C2 a frame
-/// arrives that no chain transmitted, or C3 that none transmitted before. Want of memory comes where
-/// a space or a table may grow no more. Each chain is run again on one space, an entry is copied
-/// once, after a look at the first entries that are left of all chains, and each frame is looked up
-/// in a table.
+/// arrives that no chain transmitted, or C3 that none transmitted before. Want of memory comes
+/// where a space or a table may grow no more. Each chain is run again on one space, an entry is
+/// copied once, after a look at the first entries that are left of all chains, and each frame is
+/// looked up in a table.
 pub fn check(alloc: Global, chains: Vec<Chain>) -> Result<Merged, SetError>
     // The merged entries where nothing is wrong, else what is.
     ensures checked { faults.IsChecked (λ merged. merged) chains.items result }

@@ -36,8 +36,8 @@ fn first_wrong_entry(space: &mut Space, entries: &[Stamped]) -> Result<Option<us
     Ok(None)
 }
 
-// What is wrong in a chain, run again on a new space of it: its first wrong entry, or else its first
-// wrong seal.
+// What is wrong in a chain, run again on a new space of it: its first wrong entry, or else its
+// first wrong seal.
 fn wrong_part(space: &mut Space, chain: &Chain) -> Result<Option<WrongPart>, AllocError>
     requires { IsNewOf (joined chain.now) space.old }
     ensures { IfOk result (λ found. MatchOption found (words.IsRightAndSealed chain.now)

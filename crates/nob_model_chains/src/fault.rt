@@ -8,8 +8,8 @@ use nob_model_traces::CheckFault;
 use std::alloc::{AllocError, AllocFailed};
 use thiserror::Error;
 
-/// What is wrong with a set of chains: the first of C4; C1 and C5, chain by chain in order of space;
-/// C2 and C3. Places count from 1 over all segments of a chain.
+/// What is wrong with a set of chains: the first of C4; C1 and C5, chain by chain in order of
+/// space; C2 and C3. Places count from 1 over all segments of a chain.
 #[derive(Clone, Copy, Debug, PartialEq, Eq, Error)]
 pub enum SetFault {
     /// C4, C1, C2 or C3, of the traces that the chains are.

@@ -37,10 +37,12 @@ fn is_said(alloc: Global, peer: PeerSeal, history: &History) -> Result<bool, All
 {
     let tally = tally(alloc, peer.peer, history)?;
     let session = number(peer.peer, history.deeds.as_slice());
-    Ok(peer.session == session
-        && peer.sent == tally.sent
-        && peer.acted == tally.acted
-        && same_ending(peer.closed, tally.closed))
+    Ok(
+        peer.session == session
+            && peer.sent == tally.sent
+            && peer.acted == tally.acted
+            && same_ending(peer.closed, tally.closed),
+    )
 }
 
 // Whether it is said of each of these peers what a history says.
@@ -113,8 +115,8 @@ fn put_before(
     Ok(())
 }
 
-/// The number, from 1, of the first segment of a chain whose seal isn't that of all entries up to it.
-/// Only memory fails it. It reads all entries before it again for each.
+/// The number, from 1, of the first segment of a chain whose seal isn't that of all entries up to
+/// it. Only memory fails it. It reads all entries before it again for each.
 pub fn first_wrong_seal(alloc: Global, chain: &Chain) -> Result<Option<usize>, AllocError>
     ensures { IfOk result (λ found. found ≡ words.first_wrong_seal chain.now) }
 {

@@ -1,18 +1,24 @@
 //! Chains and traces of several spaces, one after the other, checked by the definitions.
 
-use nob_chain::{Chain, ChainError, decode_all};
+use nob_chain::{Chain, ChainError, decode_all, refusal_line};
 use nob_model_chains::{SetError, SetFault, check_plainly};
 use nob_model_journal::verdict_of;
 use nob_model_traces::CheckFault;
 use nob_script_text::verdict_line;
+use nob_trace::TraceError;
 use std::alloc::{AllocError, Global};
 
 /// What is said of the chains in an input: how many entries they have together, and the verdict on
 /// these; or what is wrong with the chains; or what the first line is refused for that isn't as it
 /// should be. It is slow on purpose.
-pub fn output_of(alloc: Global, input: &[u8]) -> Result<Vec<u8>, ChainError> {
-    let chains = decode_all(alloc, input)?;
-    Ok(said_of(alloc, chains.as_slice())?.into_bytes())
+pub fn output_of(alloc: Global, input: &[u8]) -> Result<Vec<u8>, TraceError> {
+    match decode_all(alloc, input) {
+        Ok(chains) => Ok(said_of(alloc, chains.as_slice())?.into_bytes()),
+        Err(ChainError::OutOfMemory) => Err(TraceError::OutOfMemory),
+        Err(ChainError::Fault(fault)) => {
+            Ok(refusal_line(ChainError::Fault(fault)).to_vec(alloc)?)
+        }
+    }
 }
 
 // What is said of chains: how many entries they have and the verdict on these, or what is wrong.

@@ -50,12 +50,6 @@ fn run(rt: &HostRuntime) -> io::Result<()> {
     let task = task_of(rt)?;
     let mut input = Vec::new(alloc);
     rt.stdin().read_to_end(&mut input)?;
-    if let Task::Check = task {
-        return match checking::output_of(alloc, input.as_slice()) {
-            Ok(text) => rt.stdout().write_all(text.as_slice()),
-            Err(error) => rt.stdout().write_all(nob_chain::refusal_line(error)),
-        };
-    }
     match written_for(alloc, input.as_slice(), task) {
         Ok(text) => rt.stdout().write_all(text.as_slice()),
         Err(error) => rt.stdout().write_all(refusal_line(error)),
@@ -86,7 +80,7 @@ fn written_for(alloc: Global, input: &[u8], task: Task) -> Result<Vec<u8>, Trace
     match task {
         Task::Answer => output_of(alloc, input, false),
         Task::Copy => output_of(alloc, input, true),
-        Task::Check => output_of(alloc, input, true),
+        Task::Check => checking::output_of(alloc, input),
         Task::Replay => replay::verdict_of(alloc, input),
     }
 }

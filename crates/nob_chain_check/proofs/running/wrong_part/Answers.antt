@@ -38,7 +38,7 @@ returns-in-Some c =
     let behind : List Stamped = entries_of (drop (suc i) chain.segments) in
     let said = c.in_ok-at.ensures.answered (joined chain) (count_of chain.segments i) behind has.answered (next_entries chain.segments i x there ∙ ap (λ (es : List Stamped). es ++ behind) (sym c.as_slice.ensures)) in
     let wrong : IsFirstWrong (joined chain) (count_of chain.segments i + c.in-Some.at) =
-        subst (λ (o : Option ℕ). MatchOption o (HasAnswered (joined chain) (count_of chain.segments i + length c.as_slice.result.now) c.first_wrong_entry.new.space) (λ place. IsFirstWrong (joined chain) (count_of chain.segments i + place))) c.in-Some.is said in
+    subst (λ (o : Option ℕ). MatchOption o (HasAnswered (joined chain) (count_of chain.segments i + length c.as_slice.result.now) c.first_wrong_entry.new.space) (λ place. IsFirstWrong (joined chain) (count_of chain.segments i + place))) c.in-Some.is said in
     subst (λ (k : ℕ). IsFirstWrong (joined chain) (k + c.in-Some.at)) (sym has.passed_is) wrong
 
 pub overflow_add-passed : goal.overflow_add-passed
@@ -67,7 +67,7 @@ wrong_after-wrong-requires c =
     let behind : List Stamped = entries_of (drop (suc i) chain.segments) in
     let said = c.in_ok-at.ensures.answered (joined chain) (count_of chain.segments i) behind has.answered (next_entries chain.segments i x there ∙ ap (λ (es : List Stamped). es ++ behind) (sym c.as_slice.ensures)) in
     let all : HasAnswered (joined chain) (count_of chain.segments i + length c.as_slice.result.now) c.first_wrong_entry.new.space =
-        subst (λ (o : Option ℕ). MatchOption o (HasAnswered (joined chain) (count_of chain.segments i + length c.as_slice.result.now) c.first_wrong_entry.new.space) (λ place. IsFirstWrong (joined chain) (count_of chain.segments i + place))) c.in_default.is said in
+    subst (λ (o : Option ℕ). MatchOption o (HasAnswered (joined chain) (count_of chain.segments i + length c.as_slice.result.now) c.first_wrong_entry.new.space) (λ place. IsFirstWrong (joined chain) (count_of chain.segments i + place))) c.in_default.is said in
     let now : HasAnswered (joined chain) (count_of chain.segments i + length x.entries) c.first_wrong_entry.new.space = subst (λ (es : List Stamped). HasAnswered (joined chain) (count_of chain.segments i + length es) c.first_wrong_entry.new.space) c.as_slice.ensures all in
     next_peers chain i (count_of chain.segments i + length x.entries) x c.first_wrong_entry.new.space c.kept.ensures there now
 
@@ -82,6 +82,6 @@ loop-place-preserved c =
     let behind : List Stamped = entries_of (drop (suc i) chain.segments) in
     let said = c.in_ok-at.ensures.answered (joined chain) (count_of chain.segments i) behind has.answered (next_entries chain.segments i x there ∙ ap (λ (es : List Stamped). es ++ behind) (sym c.as_slice.ensures)) in
     let all : HasAnswered (joined chain) (count_of chain.segments i + length c.as_slice.result.now) c.first_wrong_entry.new.space =
-        subst (λ (o : Option ℕ). MatchOption o (HasAnswered (joined chain) (count_of chain.segments i + length c.as_slice.result.now) c.first_wrong_entry.new.space) (λ place. IsFirstWrong (joined chain) (count_of chain.segments i + place))) c.in_default.is said in
+    subst (λ (o : Option ℕ). MatchOption o (HasAnswered (joined chain) (count_of chain.segments i + length c.as_slice.result.now) c.first_wrong_entry.new.space) (λ place. IsFirstWrong (joined chain) (count_of chain.segments i + place))) c.in_default.is said in
     let now : HasAnswered (joined chain) (count_of chain.segments i + length x.entries) c.first_wrong_entry.new.space = subst (λ (es : List Stamped). HasAnswered (joined chain) (count_of chain.segments i + length es) c.first_wrong_entry.new.space) c.as_slice.ensures all in
     passed_next chain i c.loop-place.passed (c.loop-place.passed + c.len-passed.result) c.last_stamp-stamp.result x c.loop-place.wrong c.wrong_after-wrong.result c.loop-place.space c.first_wrong_entry.new.space c.kept.ensures there has c.last_stamp-stamp.ensures (ap (λ (k : ℕ). c.loop-place.passed + k) c.len-passed.ensures) now c.wrong_after-wrong.ensures

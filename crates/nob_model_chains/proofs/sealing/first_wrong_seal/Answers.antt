@@ -23,7 +23,7 @@ returns-then-not-branch c =
     let before : List Stamped = entries_of (take i chain.segments) in
     let put = c.in_ok-put_before.ensures before (subst (λ (s : ℕ). c.loop-place.journal.items ≡ journal_at s before) (sym so_far.0) so_far.2) in
     let told : c.as_slice-in-loop-place.result.now ≡ journal_at chain.space (before ++ x.entries) =
-        c.as_slice-in-loop-place.ensures.value ∙ put ∙ ap (λ (s : ℕ). journal_at s (before ++ c.as_slice.result.now)) so_far.0 ∙ ap (λ (es : List Stamped). journal_at chain.space (before ++ es)) c.as_slice.ensures in
+    c.as_slice-in-loop-place.ensures.value ∙ put ∙ ap (λ (s : ℕ). journal_at s (before ++ c.as_slice.result.now)) so_far.0 ∙ ap (λ (es : List Stamped). journal_at chain.space (before ++ es)) c.as_slice.ensures in
     let right = c.in_ok-is_right_or_none.ensures ∙ ap (λ (s : ℕ). is_right_or_none s c.get.result c.last_stamp-stamp.result c.as_slice-in-loop-place.result.now x.seal) so_far.0 ∙ ap (λ (n : ℕ). is_right_or_none chain.space n c.last_stamp-stamp.result c.as_slice-in-loop-place.result.now x.seal) so_far.1 in
     sym (so_far.3 ∙ seal_next chain.space chain.n chain.segments i x c.last_stamp-stamp.result c.as_slice-in-loop-place.result.now c.in_ok-is_right_or_none.field-0 there part.filled c.last_stamp-stamp.ensures told right
     ∙ ap (λ (b : Bool). option_or (if b then None else Some (i + 1)) (wrong_left chain.space chain.n chain.segments (i + 1))) c.if-not-branch.true)
@@ -40,12 +40,12 @@ loop-place-preserved c =
     let before : List Stamped = entries_of (take i chain.segments) in
     let put = c.in_ok-put_before.ensures before (subst (λ (s : ℕ). c.loop-place.journal.items ≡ journal_at s before) (sym so_far.0) so_far.2) in
     let now : c.put_before.new.journal.items ≡ journal_at chain.space (before ++ x.entries) =
-        put ∙ ap (λ (s : ℕ). journal_at s (before ++ c.as_slice.result.now)) so_far.0 ∙ ap (λ (es : List Stamped). journal_at chain.space (before ++ es)) c.as_slice.ensures in
+    put ∙ ap (λ (s : ℕ). journal_at s (before ++ c.as_slice.result.now)) so_far.0 ∙ ap (λ (es : List Stamped). journal_at chain.space (before ++ es)) c.as_slice.ensures in
     let told : c.as_slice-in-loop-place.result.now ≡ journal_at chain.space (before ++ x.entries) = c.as_slice-in-loop-place.ensures.value ∙ now in
     let right = c.in_ok-is_right_or_none.ensures ∙ ap (λ (s : ℕ). is_right_or_none s c.get.result c.last_stamp-stamp.result c.as_slice-in-loop-place.result.now x.seal) so_far.0 ∙ ap (λ (n : ℕ). is_right_or_none chain.space n c.last_stamp-stamp.result c.as_slice-in-loop-place.result.now x.seal) so_far.1 in (
       so_far.0,
       so_far.1,
       now ∙ ap (journal_at chain.space) (sym (entries_more chain.segments i x there)),
       so_far.3 ∙ seal_next chain.space chain.n chain.segments i x c.last_stamp-stamp.result c.as_slice-in-loop-place.result.now c.in_ok-is_right_or_none.field-0 there part.filled c.last_stamp-stamp.ensures told right
-      ∙ ap (λ (b : Bool). option_or (if b then None else Some (i + 1)) (wrong_left chain.space chain.n chain.segments (i + 1))) c.if-not-branch.false,
+          ∙ ap (λ (b : Bool). option_or (if b then None else Some (i + 1)) (wrong_left chain.space chain.n chain.segments (i + 1))) c.if-not-branch.false,
     )
