@@ -50,8 +50,7 @@ pub fn both_open(space: SpaceId, other: SpaceId, books: &[Ledger]) -> bool
     ensures { result ≡ words.both_open_by (words.did_by books.now) space other }
 {
     number_at(space, other, books) == number_at(other, space, books)
-        && !closed_at(space, other, books)
-        && !closed_at(other, space, books)
+        && (!closed_at(space, other, books) && !closed_at(other, space, books))
 }
 
 /// Whether a space is the owner of a reference, or its session with the owner is open at both ends.

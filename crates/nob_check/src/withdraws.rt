@@ -19,9 +19,10 @@ fn is_open_for(sender: SpaceId, rep: &WireRep, place: &Place, books: &[Ledger]) 
     if place.session != number_at(sender, place.to, books) {
         return false;
     }
-    both_open(sender, place.to, books)
-        && is_with_owner(sender, rep, place.with_owner, books)
-        && reaches_owner(sender, rep, books)
+    if !both_open(sender, place.to, books) {
+        return false;
+    }
+    is_with_owner(sender, rep, place.with_owner, books) && reaches_owner(sender, rep, books)
 }
 
 // Whether what the space of a ledger sent to a place isn't settled, and its sessions are open.

@@ -20,7 +20,7 @@ same_tests : (p k : ℕ) (sessions : List (ℕ × ℕ)) → list_any (is_same_se
 same_tests p k sessions = λ i. list_any (λ (other : ℕ × ℕ). equal_swap p other.0 i && equal_swap k other.1 i) sessions
 
 -- one more in the session of this number
-one_more : (p k : ℕ) (sessions : List (ℕ × ℕ)) → with_one (p, k) (reverse sessions) ≡ reverse (with_session p k sessions)
+one_more : (p k : ℕ) (sessions : List (ℕ × ℕ)) → with_one p k (reverse sessions) ≡ reverse (with_session p k sessions)
 one_more p k sessions =
     ap (λ (b : Bool). cond b (reverse sessions) (reverse sessions ++ (p, k) ∷ [])) (any_turned (is_same_session (p, k)) sessions ∙ same_tests p k sessions)
     ∙ by (is_there p k sessions)
@@ -32,5 +32,5 @@ one_more p k sessions =
 -- in which sessions items were acted on
 pub sessions_are : (s n : ℕ) (D : List Deed) → sessions_of s n D ≡ reverse (sessions_in D)
 sessions_are s n [] = refl
-sessions_are s n (Act p k ∷ D) = (λ i. with_one (p, number_is s n p D i) (sessions_are s n D i)) ∙ one_more p (number p D) (sessions_in D)
+sessions_are s n (Act p k ∷ D) = (λ i. with_one p (number_is s n p D i) (sessions_are s n D i)) ∙ one_more p (number p D) (sessions_in D)
 sessions_are s n (_ ∷ D) = sessions_are s n D

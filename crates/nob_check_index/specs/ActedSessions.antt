@@ -12,12 +12,12 @@ abbrev pub is_same_session : ℕ × ℕ → ℕ × ℕ → Bool
 is_same_session one other = one.0 == other.0 && one.1 == other.1
 
 -- these with one more, unless it is one of them
-abbrev pub with_one : ℕ × ℕ → List (ℕ × ℕ) → List (ℕ × ℕ)
-with_one session sessions = insert_key is_same_session sessions session
+abbrev pub with_one : (p k : ℕ) → List (ℕ × ℕ) → List (ℕ × ℕ)
+with_one p k sessions = insert_key is_same_session sessions (p, k)
 
 -- the sessions after a deed, by the tables before it
 abbrev pub sessions_after : Deed → Tables → List (ℕ × ℕ) → List (ℕ × ℕ)
-sessions_after (Act p k) tables sessions = with_one (p, number_in p tables.numbers) sessions
+sessions_after (Act p k) tables sessions = with_one p (number_in p tables.numbers) sessions
 sessions_after (_) tables sessions = sessions
 
 -- the sessions in which space s, among n, acted

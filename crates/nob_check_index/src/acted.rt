@@ -49,11 +49,11 @@ impl ActedSessions {
     }
 
     // These with one more.
-    fn with_one(self, session: (SpaceId, u32)) -> Result<ActedSessions, AllocError>
-        ensures { IfOk result (λ more. more ≡ words.with_one session self) }
+    fn with_one(self, peer: SpaceId, session: u32) -> Result<ActedSessions, AllocError>
+        ensures { IfOk result (λ more. more ≡ words.with_one peer session self) }
     {
         let ActedSessions { mut set } = self;
-        set.insert(session)?;
+        set.insert((peer, session))?;
         Ok(ActedSessions { set })
     }
 }
@@ -67,7 +67,10 @@ pub fn sessions_after(
     ensures { IfOk result (λ after. after ≡ words.sessions_after deed.now tables.now sessions) }
 {
     match deed {
-        Deed::Act(from, _) => sessions.with_one((*from, tables.numbers.number(*from))),
+        Deed::Act(from, _) => {
+            let more = sessions.with_one(*from, tables.numbers.number(*from))?;
+            Ok(more)
+        }
         _ => Ok(sessions),
     }
 }

@@ -136,14 +136,14 @@ impl SourceRows {
 #[tactic(auto, using(crate::proofs::Copies::row_put))]
 fn with_source(
     alloc: Global,
-    source: Source,
+    source: &Source,
     rep: &WireRep,
     rows: SourceRows,
 ) -> Result<SourceRows, AllocError>
-    ensures { IfOk result (λ more. more ≡ words.with_source source rep.now rows) }
+    ensures { IfOk result (λ more. more ≡ words.with_source source.now rep.now rows) }
 {
     let (before, others) = rows.taken(alloc, *rep)?;
-    let copies = before.with_one(source)?;
+    let copies = before.with_one(*source)?;
     others.with_sources(*rep, copies)
 }
 
@@ -157,11 +157,11 @@ fn is_in(rep: &WireRep, others: &[WireRep]) -> bool
 // The rows once copies of some references came, of each of them one: an item has few.
 fn with_copies(
     alloc: Global,
-    source: Source,
+    source: &Source,
     reps: &[WireRep],
     rows: SourceRows,
 ) -> Result<SourceRows, AllocError>
-    ensures { IfOk result (λ more. more ≡ words.with_copies source reps.now rows) }
+    ensures { IfOk result (λ more. more ≡ words.with_copies source.now reps.now rows) }
 {
     match reps {
         [] => Ok(rows),
@@ -178,11 +178,11 @@ fn with_copies(
 // The rows once an item was acted on.
 fn with_item(
     alloc: Global,
-    source: Source,
+    source: &Source,
     item: Option<&Item>,
     rows: SourceRows,
 ) -> Result<SourceRows, AllocError>
-    ensures { IfOk result (λ more. more ≡ words.with_item source
+    ensures { IfOk result (λ more. more ≡ words.with_item source.now
         (option_map (λ found. found.now) item.entry) rows) }
 {
     match item {
@@ -227,7 +227,7 @@ pub fn sources_after(
                 number: *number,
             };
             let item = tables.came.item_at(*from, *number);
-            with_item(alloc, source, item, rows)
+            with_item(alloc, &source, item, rows)
         }
         Deed::Clean(rep) => sources_with_clean(alloc, rep, tables.rows.turns(rep).asks, rows),
         _ => Ok(rows),

@@ -190,10 +190,7 @@ name_swap p session k x = regroup (x.to == p) (x.session == session) (x.number =
 
 -- the first that passes, by one more
 first_last : {A : Type 0} (test : A → Bool) (xs : List A) (x : A) → first_place test (xs ++ x ∷ []) ≡ option_or (first_place test xs) (cond (test x) (Some (length xs)) None)
-first_last test [] x = by (test x)
-  where
-    by : (b : Bool) → cond b (Some 0) None ≡ cond b (Some 0) None
-    by b = refl
+first_last test [] x = refl
 first_last test (y ∷ xs) x = by (test y) (test x) (first_last test xs x)
   where
     later : Option ℕ → Option ℕ
@@ -204,7 +201,7 @@ first_last test (y ∷ xs) x = by (test y) (test x) (first_last test xs x)
     joined true None = ap Some (omega arith)
     joined false None = refl
 
-    by : (a b : Bool) → first_place test (xs ++ x ∷ []) ≡ option_or (first_place test xs) (cond (test x) (Some (length xs)) None) → cond a (Some 0) (later (first_place test (xs ++ x ∷ []))) ≡ option_or (cond a (Some 0) (later (first_place test xs))) (cond (test x) (Some (length (y ∷ xs))) None)
+    by : (a b : Bool) → first_place test (xs ++ x ∷ []) ≡ option_or (first_place test xs) (cond (test x) (Some (length xs)) None) → cond {A = Option ℕ} a (Some 0) (later (first_place test (xs ++ x ∷ []))) ≡ option_or (cond {A = Option ℕ} a (Some 0) (later (first_place test xs))) (cond (test x) (Some (length (y ∷ xs))) None)
     by true b rest = refl
     by false b rest = ap later rest ∙ joined (test x) (first_place test xs)
 

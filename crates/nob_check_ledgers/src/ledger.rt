@@ -61,7 +61,8 @@ fn with_gifts(
         [] => Ok(sent_items),
         [gift, rest @ ..] => {
             let more = sent_items.with_gift(alloc, past, gift)?;
-            with_gifts(alloc, past, rest, more)
+            let all = with_gifts(alloc, past, rest, more)?;
+            Ok(all)
         }
     }
 }

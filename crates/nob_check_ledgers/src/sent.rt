@@ -1,7 +1,7 @@
 //! What a space sent, with tables of how much went to each peer in each session, of where each
 //! reference was sent, and of where each item stands.
 
-ghost use Rattle.std.specs.Prelude.{◌≡◌, ◌∷◌, ◌++◌, ◌&&◌, [], find, IfOk};
+ghost use Rattle.std.specs.Prelude.{◌≡◌, ◌∷◌, ◌++◌, ◌&&◌, [], find, slice_get, option_and_then, IfOk};
 ghost use Rattle.std.specs.List.{list_any};
 ghost use Rattle.std.specs.Option.{option_map};
 ghost use Rattle.nob_item.specs.Kinds.{counted_in};
@@ -299,6 +299,17 @@ fn next_item(
     })
 }
 
+// The item at a place, where there is one.
+fn item_at(sent_items: &[SentItem], place: Option<usize>) -> Option<&SentItem>
+    ensures { option_map (λ sent_item. sent_item.now) result
+        ≡ option_and_then (slice_get sent_items.now) place }
+{
+    match place {
+        Some(place) => sent_items.get(place),
+        None => None,
+    }
+}
+
 /// What a space sent, with the numbers, the first first. Contracts see the list.
 pub struct SentItems {
     sent_items: Vec<SentItem>,
@@ -387,10 +398,8 @@ impl SentItems {
         ensures { option_map (λ sent_item. sent_item.now) result
             ≡ find (words.is_item to session number) self.now }
     {
-        match self.standings.place(to, session, number) {
-            Some(place) => self.sent_items.as_slice().get(place),
-            None => None,
-        }
+        let place = self.standings.place(to, session, number);
+        item_at(self.sent_items.as_slice(), place)
     }
 
     /// These with one gift more, in the present sessions with the peer and with the owners of its
@@ -422,7 +431,8 @@ impl SentItems {
             session,
             number: count,
         };
-        let standings = standings.with_standing(name, sent_items.len())?;
+        let place = sent_items.as_slice().len();
+        let standings = standings.with_standing(name, place)?;
         let item = next_item(alloc, past, gift, count)?;
         sent_items.push(item)?;
         Ok(SentItems {

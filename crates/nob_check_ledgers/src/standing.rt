@@ -60,7 +60,10 @@ impl Standings {
             session,
             number: number.get(),
         };
-        self.map.get(&name).copied()
+        match self.map.get(&name) {
+            Some(place) => Some(*place),
+            None => None,
+        }
     }
 
     /// These with that of one name more, unless it has one. Only memory fails it. Constant time on

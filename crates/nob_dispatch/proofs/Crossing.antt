@@ -10,26 +10,25 @@ use Rattle.nob_dispatch_jobs.specs.contracts.errand.Errand as Errand
 use Rattle.nob_dispatch_jobs.specs.contracts.errand.Return as Return
 use Rattle.nob_dispatch_lanes.proofs.ends.LanePut.TheSendSync as lane_put
 use Rattle.nob_dispatch_lanes.proofs.ends.LaneTake.TheSendSync as lane_take
-use Rattle.nob_dispatch_objects.specs.declared.object.Object as Object
 use Rattle.nob_dispatch.specs.contracts.desk.Desk as Desk
 use Rattle.nob_dispatch.specs.contracts.desk.Desk.TheInside as DeskInside
 use Rattle.nob_dispatch.specs.contracts.hand.Hand as Hand
 use Rattle.nob_dispatch.specs.contracts.hand.Hand.TheInside as HandInside
 
 -- what a hand and a desk have, where the object may cross
-module _ (O : RattleType) (g : Object.Ghosts O.Denot) (crossing : IsSend O) where
-  pub hand_send : IsSend (Hand.the_row O g)
+module _ (O : RattleType) (crossing : IsSend O) where
+  pub hand_send : IsSend (Hand.the_row O)
   hand_send =
-      let T = HandInside.the_type O g in
-      let takes = lane_take.the_field_send (Errand.the_row O) _ (errand_send O g crossing) in
-      let puts = lane_put.the_field_send (Return.the_row O) _ (back.the_send O crossing) in
-      view_send (HandInside.the_row O g) _ _ _ _ (recorded_send (Struct (shape T)) T.D T.to T.to_one (struct_send (shape T)
-      (worker_send O g crossing, (takes, (puts, (search sendable, (search sendable, tt)))))))
+      let T = HandInside.the_type O in
+      let takes = lane_take.the_field_send (Errand.the_row O) (errand_send O crossing) in
+      let puts = lane_put.the_field_send (Return.the_row O) (back.the_send O crossing) in
+      view_send (HandInside.the_row O) _ _ _ _ (recorded_send (Struct (shape T)) T.D T.to T.to_one (struct_send (shape T)
+      (worker_send O crossing, (takes, (puts, (search (crosses, sendable) depth 60, tt))))))
 
-  pub desk_send : IsSend (Desk.the_row O g)
+  pub desk_send : IsSend (Desk.the_row O)
   desk_send =
-      let T = DeskInside.the_type O g in
-      let puts = lane_put.the_field_send (Errand.the_row O) _ (errand_send O g crossing) in
-      let takes = lane_take.the_field_send (Return.the_row O) _ (back.the_send O crossing) in
-      view_send (DeskInside.the_row O g) _ _ _ _ (recorded_send (Struct (shape T)) T.D T.to T.to_one (struct_send (shape T)
-      (dispatcher_send O g crossing, (puts, (takes, (search sendable, (search (job_send, crosses, sendable) depth 60, (search sendable, tt))))))))
+      let T = DeskInside.the_type O in
+      let puts = lane_put.the_field_send (Errand.the_row O) (errand_send O crossing) in
+      let takes = lane_take.the_field_send (Return.the_row O) (back.the_send O crossing) in
+      view_send (DeskInside.the_row O) _ _ _ _ (recorded_send (Struct (shape T)) T.D T.to T.to_one (struct_send (shape T)
+      (dispatcher_send O crossing, (puts, (takes, (search sendable, (search (job_send, crosses, sendable) depth 60, (search sendable, tt))))))))

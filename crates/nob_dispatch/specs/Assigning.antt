@@ -1,12 +1,13 @@
--- A dispatcher with the ends of its two lanes. In lists of the numbers of jobs that ends gave and got the first stands first.
-use Rattle.std.specs.Prelude.{◌≡◌, ◌≤◌, ◌+◌, ◌-◌, ℕ, Bool, true, List, [], ◌∷◌, ◌++◌, length, reverse, Option, Some, None, Result, Ok, if◌then◌else◌}
+-- A dispatcher with the ends of its two lanes. In lists of the errands and objects that ends gave and got the first stands first.
+use Rattle.std.specs.Prelude.{◌≡◌, ◌⊎◌, ◌≤◌, ◌+◌, ◌-◌, ℕ, Bool, true, List, [], ◌∷◌, ◌++◌, length, map, reverse, Option, Some, None, Result, Ok, if◌then◌else◌}
 use Rattle.nob_model_types.specs.declared.answer.Job.{Job}
 use Rattle.nob_dispatch_jobs.specs.KeeperError.{KeeperError}
 use Rattle.nob_dispatch.specs.declared.desk.Assigned.{Assigned}
 use Rattle.nob_dispatch.specs.declared.desk.Assigned.TheVariants as answers
+use Rattle.nob_dispatch_jobs.specs.declared.errand.Errand.{Errand}
 use Rattle.nob_dispatch_jobs.specs.declared.errand.Return.{Return}
 use Rattle.nob_dispatch_jobs.specs.declared.shelf.Place.{Place}
-use Rattle.nob_dispatch_jobs.specs.declared.shelf.Place.TheVariants.{Here}
+use Rattle.nob_dispatch_jobs.specs.declared.shelf.Place.TheVariants.{Here, Away}
 use Rattle.nob_dispatch_jobs.specs.Ends.{with_job}
 use Rattle.nob_dispatch_jobs.specs.Dispatching.{Dispatching}
 use Rattle.nob_dispatch_jobs.specs.Dispatching as dispatching
@@ -14,12 +15,14 @@ use Rattle.nob_dispatch_jobs.specs.Shelves.{place_of, with_place, is_away}
 
 -- a desk, as contracts see it
 pub record Assigning (O : Type 0) : Type 0 where
-  -- the numbers of the jobs that it gave, the first first
-  pub given : List ℕ
-  -- of those whose objects came back
-  pub back : List ℕ
+  -- the errands that it gave, the first first
+  pub given : List (Errand O)
+  -- the objects that came back
+  pub back : List (Return O)
   -- the job that it handed on and could not give, since nobody gets any more
-  pub unsent : Option ℕ
+  pub unsent : Option Job
+  -- whether it heard that nobody gets any more
+  pub is_alone : Bool
   -- how many objects it takes to be away
   pub away : ℕ
   -- whether it claims no more
@@ -27,19 +30,19 @@ pub record Assigning (O : Type 0) : Type 0 where
   -- its dispatcher
   pub dispatcher : Dispatching O
 
--- the number of a job, if there is one
-abbrev pub number_in : Option Job → Option ℕ
-number_in None = None
-number_in (Some job) = Some job.job
-
 module _ {O : Type 0} where
-  -- the jobs that a desk handed on, the newest FIRST
-  abbrev pub handed_on : Assigning O → List ℕ
-  handed_on a = with_job a.unsent (reverse a.given)
+  -- the jobs of errands
+  abbrev pub jobs : List (Errand O) → List Job
+  jobs errands = map (λ errand. errand.job) errands
 
-  -- each job that was claimed was handed on, is kept, or was ended, as often; and what was given and isn't back is counted as away, 512 at most
+  -- the jobs that a desk handed on, the newest FIRST
+  abbrev pub handed_on : Assigning O → List Job
+  handed_on a = with_job a.unsent (jobs (reverse a.given))
+
+  -- each job that was claimed was handed on, unchanged, is kept, or was ended, as often; what was given and isn't back is counted as away, 512 at most;
+  -- and a job isn't given only where nobody gets any more
   abbrev pub IsTied : Assigning O → Type 0
-  IsTied a = dispatching.IsTied (handed_on a) a.dispatcher × (length a.given ≤ a.away + length a.back) × (a.away ≤ 512)
+  IsTied a = dispatching.IsTied (handed_on a) a.dispatcher × (length a.given ≤ a.away + length a.back) × (a.away ≤ 512) × ((a.unsent ≡ None) ⊎ (a.is_alone ≡ true))
 
   -- the shelf once an object came back: where it is away it is here again, and else it is let go
   abbrev pub with_return : Return O → List (ℕ × Place O) → List (ℕ × Place O)
@@ -47,7 +50,7 @@ module _ {O : Type 0} where
 
   -- a desk to which an object came back
   abbrev pub with_back : Return O → Assigning O → Assigning O
-  with_back back a = record { given = a.given; back = a.back ++ back.job ∷ []; unsent = a.unsent; away = a.away - 1; has_stopped = a.has_stopped; dispatcher = dispatching.with_shelf (with_return back a.dispatcher.shelf) a.dispatcher }
+  with_back back a = record { given = a.given; back = a.back ++ back ∷ []; unsent = a.unsent; is_alone = a.is_alone; away = a.away - 1; has_stopped = a.has_stopped; dispatcher = dispatching.with_shelf (with_return back a.dispatcher.shelf) a.dispatcher }
 
   -- a desk to which these came back, the newest of which stands FIRST
   abbrev pub with_all_back : List (Return O) → Assigning O → Assigning O
@@ -64,17 +67,21 @@ module _ {O : Type 0} where
 
   -- all but the objects, and what came back, is as it was
   abbrev pub IsSameBesideBack : (old new : Assigning O) → Type 0
-  IsSameBesideBack old new = (new.given ≡ old.given) × (new.unsent ≡ old.unsent) × (new.has_stopped ≡ old.has_stopped) × (new.dispatcher.receipts ≡ old.dispatcher.receipts) × (dispatching.kept new.dispatcher ≡ dispatching.kept old.dispatcher)
+  IsSameBesideBack old new = (new.given ≡ old.given) × (new.unsent ≡ old.unsent) × (new.is_alone ≡ old.is_alone) × (new.has_stopped ≡ old.has_stopped) × dispatching.IsSameBesideShelf old.dispatcher new.dispatcher
 
-  -- a turn gives one errand, or none
+  -- one errand is given, with the object of its job's index, which was here and is away from then on; or none is
   abbrev pub GivesOne : Result Assigned KeeperError → (old new : Assigning O) → Type 0
-  GivesOne (Ok answers.Handed) old new = (number : ℕ) × (new.given ≡ old.given ++ number ∷ [])
+  GivesOne (Ok answers.Handed) old new = (errand : Errand O) × (new.given ≡ old.given ++ errand ∷ []) × (place_of errand.job.target old.dispatcher.shelf ≡ Some (Here errand.object)) × (new.dispatcher.shelf ≡ with_place errand.job.target Away old.dispatcher.shelf)
   GivesOne _ old new = new.given ≡ old.given
+
+  -- some objects come back, and then one errand is given, or none
+  abbrev pub GivesAfter : Result Assigned KeeperError → (old new : Assigning O) → Type 0
+  GivesAfter result old new = (between : Assigning O) × SomeComeBack old between × GivesOne result between new
 
   -- a desk with other objects
   abbrev pub with_shelf : List (ℕ × Place O) → Assigning O → Assigning O
-  with_shelf shelf a = record { given = a.given; back = a.back; unsent = a.unsent; away = a.away; has_stopped = a.has_stopped; dispatcher = dispatching.with_shelf shelf a.dispatcher }
+  with_shelf shelf a = record { given = a.given; back = a.back; unsent = a.unsent; is_alone = a.is_alone; away = a.away; has_stopped = a.has_stopped; dispatcher = dispatching.with_shelf shelf a.dispatcher }
 
   -- a desk that claims no more
   abbrev pub stopped : Assigning O → Assigning O
-  stopped a = record { given = a.given; back = a.back; unsent = a.unsent; away = a.away; has_stopped = true; dispatcher = a.dispatcher }
+  stopped a = record { given = a.given; back = a.back; unsent = a.unsent; is_alone = a.is_alone; away = a.away; has_stopped = true; dispatcher = a.dispatcher }

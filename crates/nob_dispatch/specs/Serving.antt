@@ -1,42 +1,108 @@
--- A worker with the ends of its two lanes. Numbers of jobs stand oldest first where nothing else is said; receipts stand the newest FIRST.
-use Rattle.std.specs.Prelude.{◌≡◌, ℕ, Bool, true, false, List, ◌++◌, ◌∷◌, [], reverse, Option, Some}
+-- A worker with the ends of its two lanes. Errands and objects stand oldest first where nothing else is said; receipts stand the newest FIRST.
+use Rattle.std.specs.Prelude.{◌≡◌, ℕ, Bool, true, false, List, ◌++◌, ◌∷◌, [], map, reverse, Option, Some, None, IfSome, Result, Ok, Err, if◌then◌else◌}
+use Rattle.nob_model_types.specs.declared.answer.Job.{Job}
 use Rattle.nob_dispatch_lanes.specs.declared.ends.LanePut.{LanePut}
 use Rattle.nob_dispatch_lanes.specs.declared.ends.LaneTake.{LaneTake}
 use Rattle.nob_dispatch_lanes.specs.Ends.{given_by, got_by}
+use Rattle.nob_dispatch_jobs.specs.KeeperError.{KeeperError}
+use Rattle.nob_dispatch_jobs.specs.KeeperError.TheVariants as errors
+use Rattle.nob_dispatch_jobs.specs.declared.errand.Errand.{Errand}
+use Rattle.nob_dispatch_jobs.specs.declared.errand.Return.{Return}
 use Rattle.nob_dispatch_jobs.specs.Ends.{ended, with_job}
-use Rattle.nob_dispatch_jobs.specs.Working.{Working, held}
+use Rattle.nob_dispatch_jobs.specs.Working.{Working, with_errand}
+use Rattle.nob_dispatch.specs.declared.hand.Deed.{Deed}
+use Rattle.nob_dispatch.specs.declared.hand.Deed.TheVariants as deeds
 
--- the numbers that an end of a lane gave, the first first
-abbrev pub given : {X : Type 0} → LanePut X → List ℕ
+-- what an end of a lane gave, the first first
+abbrev pub given : {X : Type 0} → LanePut X → List X
 given end = given_by end.pass
 
--- the numbers that an end of a lane got, the first first
-abbrev pub taken : {X : Type 0} → LaneTake X → List ℕ
+-- what an end of a lane got, the first first
+abbrev pub taken : {X : Type 0} → LaneTake X → List X
 taken end = got_by end.pass
 
+-- whether an error of the keeper is want of memory
+abbrev pub is_memory : KeeperError → Bool
+is_memory errors.OutOfMemory = true
+is_memory errors.TraceFull = false
+is_memory errors.Stamp = false
+is_memory errors.Seats = false
+is_memory errors.NoTrace = false
+
+-- a job's number, and the index of its object
+abbrev pub place : Job → ℕ × ℕ
+place job = (job.job, job.target)
+
+-- those of a job, if there is one
+abbrev pub place_in : Option Job → Option (ℕ × ℕ)
+place_in None = None
+place_in (Some job) = Some (place job)
+
+-- all, the newest FIRST, are those done, in order, and the one that isn't yet; once some are missed, those stand above the ones done
+abbrev pub Follows : {X : Type 0} → (misses : Bool) → (next : Option X) → (all done : List X) → Type 0
+Follows false next all done = all ≡ with_job next done
+Follows true next all done = (missed : List _) × (all ≡ with_job next (missed ++ done))
+
+-- whether there is an error that makes a hand give up
+abbrev pub gives_up : Option KeeperError → Bool
+gives_up None = false
+gives_up (Some error) = true
+
+-- a hand gives up from a turn on that the keeper refused for another reason than want of memory, and for none else
+abbrev pub fault_after : Result Deed KeeperError → Option KeeperError → Option KeeperError
+fault_after (Ok deed) before = before
+fault_after (Err error) before = if is_memory error then before else Some error
+
 -- a hand, as contracts see it
-pub record Serving : Type 0 where
-  -- the numbers of the jobs that it got, the first first
-  pub taken : List ℕ
-  -- of those whose objects it gave back
-  pub given : List ℕ
+pub record Serving (O : Type 0) : Type 0 where
+  -- the errands that it got, the first first
+  pub taken : List (Errand O)
+  -- the objects that it gave back
+  pub given : List (Return O)
   -- its worker
   pub worker : Working
-  -- whether it gives its jobs up
-  pub gives_up : Bool
-  -- whether it was found that nobody gets what it gives back
+  -- the error of the keeper for which it gives its jobs up, if there was one
+  pub fault : Option KeeperError
+  -- whether it heard that nobody gets what it gives back
   pub is_alone : Bool
 
--- all numbers, the newest FIRST, are those done, in order, and the one that isn't yet; once some are missed, those stand above the ones done
-abbrev pub Follows : (misses : Bool) → (next : Option ℕ) → (all done : List ℕ) → Type 0
-Follows false next all done = all ≡ with_job next done
-Follows true next all done = (missed : List ℕ) × (all ≡ with_job next (missed ++ done))
+module _ {O : Type 0} where
+  -- the numbers of the jobs of errands
+  abbrev pub numbers : List (Errand O) → List ℕ
+  numbers errands = map (λ errand. errand.job.job) errands
 
--- the jobs that a hand got are, in order, those that its receipts ended, those that it gave up, and the one that its worker keeps;
--- and they are those whose objects it gave back, those whose objects nobody was there to get, and the one whose object its worker has
-abbrev pub IsTied : Serving → Type 0
-IsTied s = Follows s.gives_up s.worker.job (reverse s.taken) (ended s.worker.receipts) × Follows s.is_alone (held s.worker) (reverse s.taken) (reverse s.given)
+  -- the number of each errand's job, and the index of its object
+  abbrev pub places : List (Errand O) → List (ℕ × ℕ)
+  places errands = map (λ errand. place errand.job) errands
 
--- an errand was got: its job is the next, and the worker keeps it with its object
-abbrev pub Gets : (old new : Serving) → Type 0
-Gets old new = (number : ℕ) × (index : ℕ) × (new ≡ record { taken = old.taken ++ number ∷ []; given = old.given; worker = record { receipts = old.worker.receipts; job = Some number; object = Some index }; gives_up = old.gives_up; is_alone = old.is_alone })
+  -- the number of the job that each object comes back from, and its index
+  abbrev pub returned : List (Return O) → List (ℕ × ℕ)
+  returned backs = map (λ back. (back.job, back.index)) backs
+
+  -- the job that runs, if one does, is that of the newest errand, of those the newest FIRST
+  abbrev pub Runs : Option Job → List (Errand O) → Type 0
+  Runs None errands = Unit {0}
+  Runs (Some job) [] = ⊥
+  Runs (Some job) (newest ∷ earlier) = newest.job ≡ job
+
+  -- the jobs that a hand got are, in order, those that its receipts ended, those that it gave up, and the one that its worker keeps; they are those whose
+  -- objects it gave back, each with its own index, those whose objects nobody was there to get, and the one whose object its worker has, the newest one;
+  -- and what makes it give up isn't want of memory
+  abbrev pub IsTied : Serving O → Type 0
+  IsTied s =
+      Follows (gives_up s.fault) s.worker.job (numbers (reverse s.taken)) (ended s.worker.receipts)
+      × Follows s.is_alone (place_in s.worker.running) (places (reverse s.taken)) (returned (reverse s.given))
+      × Runs s.worker.running (reverse s.taken)
+      × IfSome s.fault (λ error. is_memory error ≡ false)
+
+  -- an errand was got: its job is the next, and the worker keeps it with its object
+  abbrev pub Gets : (old new : Serving O) → Type 0
+  Gets old new = (errand : Errand O) × (new ≡ record { taken = old.taken ++ errand ∷ []; given = old.given; worker = with_errand errand old.worker; fault = old.fault; is_alone = old.is_alone })
+
+  -- a hand whose job has ended keeps none, and so does one that has nothing to do, or has just begun to give up
+  abbrev pub IsFreeAfter : Result Deed KeeperError → Serving O → Type 0
+  IsFreeAfter (Ok deeds.Ended) s = s.worker.job ≡ None
+  IsFreeAfter (Ok deeds.Idle) s = s.worker.job ≡ None
+  IsFreeAfter (Ok deeds.Did) s = Unit {0}
+  IsFreeAfter (Ok deeds.Later) s = Unit {0}
+  IsFreeAfter (Err error) s = is_memory error ≡ false → s.worker.job ≡ None

@@ -1,7 +1,8 @@
 //! A dispatcher with the ends of its lanes.
 
-ghost use Rattle.std.specs.Prelude.{◌≡◌, ◌≢◌, ◌<◌, [], ℕ, List, Some, None, true, false, OnOk, OnErr, MatchOption, MatchResult};
+ghost use Rattle.std.specs.Prelude.{◌≡◌, ◌≢◌, ◌<◌, [], List, Some, None, true, false, OnOk, OnErr, MatchOption, MatchResult};
 ghost use Rattle.nob_dispatch.specs.Assigning as assigning;
+ghost use Rattle.nob_model_types.specs.declared.answer.Job.{Job as JobOf};
 ghost use Rattle.nob_dispatch_jobs.specs.Dispatching as dispatching;
 ghost use Rattle.nob_dispatch_jobs.specs.Ends.{claimed};
 ghost use Rattle.nob_dispatch.specs.Serving as serving;
@@ -9,7 +10,8 @@ ghost use Rattle.nob_dispatch_jobs.specs.Shelves as shelves;
 ghost use Rattle.nob_dispatch_jobs.specs.declared.shelf.Place.TheVariants.{Here, Away};
 
 use nob_dispatch_jobs::{
-    AddError, Dispatcher, Errand, Handing, JobCalls, KeeperError, Place, Return, Seat, Shelf,
+    AddError, Dispatcher, Errand, Handing, JobCalls, KeeperError, Place, Remaining, Return, Seat,
+    Shelf,
 };
 use nob_dispatch_lanes::{LanePut, LaneTake, MOST_ERRANDS};
 use nob_dispatch_objects::Object;
@@ -36,8 +38,8 @@ pub enum Assigned {
 }
 
 /// A dispatcher with the end of the lane that its errands go by, and the end of the lane that their
-/// objects come back by. Contracts see the numbers that the ends gave and got, and the dispatcher;
-/// these are tied.
+/// objects come back by. Contracts see what the ends gave and got, and the dispatcher; these are
+/// tied.
 #[derive(Drop)]
 pub struct Desk<O: Object> {
     dispatcher: Dispatcher<O>,
@@ -84,12 +86,13 @@ impl<O: Object> Desk<O> {
           given = [];
           back = [];
           unsent = None;
+          is_alone = errands.has_heard_gone;
           away = 0;
           has_stopped = false;
           dispatcher = record {
             receipts = [];
             shelf = [];
-            due = None;
+            is_due = false;
             waiting = [];
             ending = None;
           };
@@ -165,8 +168,8 @@ impl<O: Object> Desk<O> {
     /// Whether nothing is away, and the dispatcher keeps no job.
     pub fn is_at_rest(&self) -> bool
         ensures rest { result ≡ true
-            → (self.now.away ≡ 0) × (dispatching.kept self.now.dispatcher ≡ []) }
-        ensures busy { self.now.away ≡ 0 → dispatching.kept self.now.dispatcher ≡ []
+            → (self.now.away ≡ 0) × dispatching.IsAtRest self.now.dispatcher }
+        ensures busy { self.now.away ≡ 0 → dispatching.IsAtRest self.now.dispatcher
             → result ≡ true }
     {
         self.away == 0 && self.dispatcher.is_at_rest()
@@ -181,7 +184,7 @@ impl<O: Object> Desk<O> {
         rt: &R,
         keeper: &C,
     ) -> Result<Assigned, KeeperError>
-        ensures given { assigning.GivesOne result self.old self.new }
+        ensures given { assigning.GivesAfter result self.old self.new }
         ensures claims { self.old.has_stopped ≡ true
             → claimed self.new.dispatcher.receipts ≡ claimed self.old.dispatcher.receipts }
         ensures stopped { self.new.has_stopped ≡ self.old.has_stopped }
@@ -270,32 +273,31 @@ impl<O: Object> Desk<O> {
         }
     }
 
-    /// Its parts, which are tied: its seat, the objects, the jobs whose objects are away, and its
-    /// ends.
+    /// Its parts, which are tied: all that its dispatcher has, the job of the errand that it couldn't
+    /// give, and its ends.
     pub fn end(
         self,
     ) -> (
-        Seat,
-        Shelf<O>,
-        Vec<Job>,
+        Remaining<O>,
+        Option<Job>,
         LanePut<Errand<O>>,
         LaneTake<Return<O>>,
     )
-        ensures seat { result.0 ≡ self.dispatcher.receipts }
-        ensures shelf { result.1 ≡ self.dispatcher.shelf }
-        ensures waiting { dispatching.numbers result.2.items ≡ self.dispatcher.waiting }
-        ensures errands { serving.given result.3 ≡ self.given }
-        ensures returns { serving.taken result.4 ≡ self.back }
+        ensures left { dispatching.IsLeft result.0 self.dispatcher }
+        ensures unsent { result.1 ≡ self.unsent }
+        ensures errands { serving.given result.2 ≡ self.given }
+        ensures returns { serving.taken result.3 ≡ self.back }
         ensures tied { assigning.IsTied self }
     {
         let Desk {
             dispatcher,
             errands,
             returns,
-            ..
+            away: _,
+            unsent,
+            has_stopped: _,
         } = self;
-        let (seat, shelf, waiting) = dispatcher.end();
-        (seat, shelf, waiting, errands, returns)
+        (dispatcher.end(), unsent, errands, returns)
     }
 }
 
@@ -306,8 +308,9 @@ fn step<O: Object, R: Wait, C: JobCalls>(
     dispatcher: &mut Dispatcher<O>,
     claims: bool,
 ) -> Result<Handing<O>, KeeperError>
-    ensures tied { (handed : List ℕ) → dispatching.IsTied handed dispatcher.old
+    ensures tied { (handed : List JobOf) → dispatching.IsTied handed dispatcher.old
         → dispatching.IsTied (dispatching.with_handed result handed) dispatcher.new }
+    ensures object { dispatching.HandsOver result dispatcher.old.shelf dispatcher.new.shelf }
     ensures claims { claims ≡ false → claimed dispatcher.new.receipts
         ≡ claimed dispatcher.old.receipts }
 {
@@ -324,7 +327,7 @@ fn put_down<O: Object>(dispatcher: &mut Dispatcher<O>, back: Return<O>)
         (shelves.with_place back.index (Here back.object) dispatcher.old.shelf) dispatcher.old }
     ensures out { shelves.place_of back.index dispatcher.old.shelf ≢ Some Away
         → dispatcher.new ≡ dispatcher.old }
-    ensures tied { (handed : List ℕ) → dispatching.IsTied handed dispatcher.old
+    ensures tied { (handed : List JobOf) → dispatching.IsTied handed dispatcher.old
         → dispatching.IsTied handed dispatcher.new }
     ensures same { dispatching.IsSameBesideShelf dispatcher.old dispatcher.new }
 {
@@ -337,9 +340,9 @@ fn keep_unsent<O: Object>(
     unsent: &mut Option<Job>,
     errand: Errand<O>,
 )
-    ensures unsent { assigning.number_in unsent.new ≡ Some errand.job.job }
+    ensures unsent { unsent.new ≡ Some errand.job }
     ensures same { dispatching.IsSameBesideShelf dispatcher.old dispatcher.new }
-    ensures tied { (handed : List ℕ) → dispatching.IsTied handed dispatcher.old
+    ensures tied { (handed : List JobOf) → dispatching.IsTied handed dispatcher.old
         → dispatching.IsTied handed dispatcher.new }
 {
     let Errand { job, object } = errand;

@@ -1,9 +1,8 @@
 //! A worker with the ends of its lanes.
 
-ghost use Rattle.std.specs.Prelude.{◌≡◌, ◌≢◌, [], ℕ, List, Some, None, Ok, true, false, reverse};
+ghost use Rattle.std.specs.Prelude.{◌≡◌, ◌≢◌, [], ℕ, List, Some, None, true, false, reverse, MatchOption};
 ghost use Rattle.nob_dispatch.specs.Serving as serving;
 ghost use Rattle.nob_dispatch_jobs.specs.Working as working;
-ghost use Rattle.nob_dispatch.specs.declared.hand.Deed.TheVariants as deeds;
 
 use nob_dispatch_jobs::{Errand, Gate, JobCalls, KeeperError, Progress, Return, Seat, Worker};
 use nob_dispatch_lanes::{LanePut, LaneTake};
@@ -25,23 +24,20 @@ pub enum Deed {
 }
 
 /// A worker with the end of the lane that its errands come by, and the end of the lane that their
-/// objects go back by. Contracts see the numbers that the ends got and gave, and the worker; these
-/// are tied.
+/// objects go back by. Contracts see what the ends got and gave, and the worker; these are tied.
 #[derive(Drop)]
 pub struct Hand<O: Object> {
     worker: Worker<O>,
     errands: LaneTake<Errand<O>>,
     returns: LanePut<Return<O>>,
-    // Whether it gives up each job that it gets.
-    gives_up: bool,
-    // Whether it was found that nobody gets what it gives back.
-    is_alone: bool,
+    // The error of the keeper for which it gives up each job that it gets, if there was one.
+    fault: Option<KeeperError>,
 }
 
 impl<O: Object> Model for Hand<O> {
     ghost use Rattle.nob_dispatch.specs.Serving.{Serving};
 
-    ghost Value = { Serving };
+    ghost Value = { Serving O };
 
     ghost use Rattle.std.specs.Coded.{codes};
     ghost use Rattle.nob_pickle.specs.Marks.{trees_code};
@@ -65,17 +61,16 @@ impl<O: Object> Hand<O> {
         ensures { result ≡ record {
           taken = [];
           given = [];
-          worker = record { receipts = []; job = None; object = None };
-          gives_up = false;
-          is_alone = false;
+          worker = record { receipts = []; job = None; running = None };
+          fault = None;
+          is_alone = returns.has_heard_gone;
         } }
     {
         Hand {
             worker: Worker::new(seat),
             errands,
             returns,
-            gives_up: false,
-            is_alone: false,
+            fault: None,
         }
     }
 
@@ -120,8 +115,10 @@ impl<O: Object> Hand<O> {
     }
 
     /// One turn: a step of the job that the worker keeps, as `Worker::turn` has it. An object that
-    /// comes back is given to the lane at once, before the Finish. Where it was found that nobody
-    /// gets it any more it is let go. A hand that gives up does so in place of a step.
+    /// comes back is given to the lane at once, before the Finish. Where the hand heard that nobody
+    /// gets it any more it is let go. After an error of the keeper other than K2 the hand gives up
+    /// the job that it keeps, and from then on each that it gets: the object goes back over the lane,
+    /// and the job isn't ended.
     pub fn turn<R: Wait, C: JobCalls, G: Gate>(
         &mut self,
         rt: &R,
@@ -129,74 +126,99 @@ impl<O: Object> Hand<O> {
         gate: &G,
     ) -> Result<Deed, KeeperError>
         ensures taken { self.new.taken ≡ self.old.taken }
-        ensures gives_up { self.new.gives_up ≡ self.old.gives_up }
-        ensures free { result ≡ Ok deeds.Ended → self.new.worker.job ≡ None }
+        ensures fault { self.new.fault ≡ serving.fault_after result self.old.fault }
+        ensures free { serving.IsFreeAfter result self.new }
     {
-        if self.gives_up {
-            self.give_up(rt);
+        if let Some(error) = self.fault {
+            self.give_up(rt, error);
             return Ok(Deed::Idle);
         }
-        match self.worker.turn(rt, keeper, gate)? {
-            Progress::Back(back) => {
-                send_back(rt, &mut self.returns, &mut self.is_alone, back);
+        match self.worker.turn(rt, keeper, gate) {
+            Ok(Progress::Back(back)) => {
+                send_back(rt, &mut self.returns, back);
                 Ok(Deed::Did)
             }
-            Progress::Did => Ok(Deed::Did),
-            Progress::Ended(_) => Ok(Deed::Ended),
-            Progress::Later => Ok(Deed::Later),
-            Progress::Idle => Ok(Deed::Idle),
+            Ok(Progress::Did) => Ok(Deed::Did),
+            Ok(Progress::Ended(_)) => Ok(Deed::Ended),
+            Ok(Progress::Later) => Ok(Deed::Later),
+            Ok(Progress::Idle) => Ok(Deed::Idle),
+            Err(error) => {
+                if is_memory(error) {
+                    return Err(error);
+                }
+                self.give_up(rt, error);
+                Err(error)
+            }
         }
     }
 
-    /// Gives up the job that it keeps, if it keeps one, and from now on each that it gets: the object
-    /// goes back over the lane, and the job isn't ended. For a trace that is full.
-    #[tactic(auto, using(crate::proofs::Follows::missed))]
-    pub fn give_up<R: Wait>(&mut self, rt: &R)
-        ensures gives_up { self.new.gives_up ≡ true }
+    // Gives up the job that it keeps, if it keeps one, and from now on each that it gets.
+    fn give_up<R: Wait>(&mut self, rt: &R, error: KeeperError)
+        requires { serving.is_memory error ≡ false }
+        ensures fault { self.new.fault ≡ Some error }
         ensures taken { self.new.taken ≡ self.old.taken }
         ensures worker { self.new.worker ≡ working.freed self.old.worker }
     {
-        self.gives_up = true;
+        self.fault = Some(error);
         if let Some(back) = self.worker.give_up() {
-            send_back(rt, &mut self.returns, &mut self.is_alone, back);
+            send_back(rt, &mut self.returns, back);
         }
     }
 
-    /// Its parts: its seat and its ends, which are tied. The object of a job that it still keeps is
-    /// let go: it is given up first.
-    pub fn end(self) -> (Seat, LaneTake<Errand<O>>, LanePut<Return<O>>)
+    /// Its parts, which are tied: its seat, the errand that it keeps, if its method hasn't ended, and
+    /// its ends.
+    pub fn end(
+        self,
+    ) -> (
+        Seat,
+        Option<Errand<O>>,
+        LaneTake<Errand<O>>,
+        LanePut<Return<O>>,
+    )
         ensures seat { result.0 ≡ self.worker.receipts }
-        ensures errands { serving.taken result.1 ≡ self.taken }
-        ensures returns { serving.given result.2 ≡ self.given }
+        ensures errand { MatchOption result.1 (self.worker.running ≡ None)
+            (λ errand. self.worker.running ≡ Some errand.job) }
+        ensures errands { serving.taken result.2 ≡ self.taken }
+        ensures returns { serving.given result.3 ≡ self.given }
         ensures tied { serving.IsTied self }
     {
         let Hand {
             worker,
             errands,
             returns,
-            ..
+            fault: _,
         } = self;
-        let (seat, _) = worker.end();
-        (seat, errands, returns)
+        let (seat, errand) = worker.end();
+        (seat, errand, errands, returns)
     }
 }
 
-// Gives an object back over a lane, unless it was found that nobody gets it any more.
-#[tactic(auto, using(crate::proofs::Follows::missed))]
-fn send_back<O: Object, R: Wait>(
-    rt: &R,
-    returns: &mut LanePut<Return<O>>,
-    is_alone: &mut bool,
-    back: Return<O>,
-)
-    ensures { (all : List ℕ)
-        → serving.Follows is_alone.old (Some back.job) all (reverse (serving.given returns.old))
-        → serving.Follows is_alone.new None all (reverse (serving.given returns.new)) }
+/// Whether an error of the keeper is want of memory.
+pub(crate) fn is_memory(error: KeeperError) -> bool
+    ensures { result ≡ serving.is_memory error }
 {
-    if *is_alone {
+    match error {
+        KeeperError::OutOfMemory => true,
+        KeeperError::TraceFull => false,
+        KeeperError::Stamp => false,
+        KeeperError::Seats => false,
+        KeeperError::NoTrace => false,
+    }
+}
+
+// Gives an object back over a lane, unless it was heard that nobody gets it any more.
+#[tactic(auto, using(crate::proofs::Follows::missed))]
+fn send_back<O: Object, R: Wait>(rt: &R, returns: &mut LanePut<Return<O>>, back: Return<O>)
+    ensures { (all : List (ℕ × ℕ))
+        → serving.Follows returns.old.has_heard_gone (Some (back.job, back.index)) all
+        (serving.returned (reverse (serving.given returns.old)))
+        → serving.Follows returns.new.has_heard_gone None all
+        (serving.returned (reverse (serving.given returns.new))) }
+{
+    if returns.has_heard_gone() {
         return;
     }
-    if returns.give_as(rt, back).is_err() {
-        *is_alone = true;
-    }
+    let Err(_) = returns.give_as(rt, back) else {
+        return;
+    };
 }

@@ -9,7 +9,7 @@ mod pool;
 pub use desk::{Assigned, Desk, MOST_AWAY};
 pub use hand::{Deed, Hand};
 pub use nob_dispatch_jobs::{
-    AddError, Dispatcher, Errand, Gate, Handing, JobCalls, OpenGate, Place, Progress, Return,
-    Shelf, Worker,
+    AddError, Dispatcher, Errand, Gate, Handing, JobCalls, OpenGate, Place, Progress, Remaining,
+    Return, Shelf, Worker,
 };
 pub use pool::{carry_out, serve};

@@ -2,8 +2,8 @@
 
 ghost use Rattle.std.specs.Prelude.{◌≡◌, None};
 
-use crate::hand::{Deed, Hand};
-use nob_dispatch_jobs::{Gate, JobCalls, KeeperError};
+use crate::hand::{Deed, Hand, is_memory};
+use nob_dispatch_jobs::{Gate, JobCalls};
 use nob_dispatch_objects::Object;
 use std::sync::Wait;
 use std::sync::atomic::AtomicU64;
@@ -36,7 +36,7 @@ pub fn serve<O: Object, R: Wait, C: JobCalls, G: Gate>(
 }
 
 /// Carries out the job that a hand keeps, to its end. What can't be done yet is tried again after a
-/// rest, K2 at once; after any other error of the keeper the job is given up, as `serve` does.
+/// rest, K2 at once; after any other error of the keeper the hand gives the job up.
 pub fn carry_out<O: Object, R: Wait, C: JobCalls, G: Gate>(
     rt: &R,
     keeper: &C,
@@ -44,6 +44,7 @@ pub fn carry_out<O: Object, R: Wait, C: JobCalls, G: Gate>(
     hand: &mut Hand<O>,
 )
     ensures taken { hand.new.taken ≡ hand.old.taken }
+    ensures free { hand.new.worker.job ≡ None }
 {
     let mut rest = FIRST_REST;
     for _ in rt.forever() {
@@ -52,8 +53,12 @@ pub fn carry_out<O: Object, R: Wait, C: JobCalls, G: Gate>(
             Ok(Deed::Later) => rest = after_rest(rt, rest),
             Ok(Deed::Ended) => return,
             Ok(Deed::Idle) => return,
-            Err(KeeperError::OutOfMemory) => thread::yield_now(),
-            Err(_) => return hand.give_up(rt),
+            Err(error) => {
+                if !is_memory(error) {
+                    return;
+                }
+                thread::yield_now();
+            }
         }
     }
 }

@@ -5,7 +5,6 @@ use denote.Struct.Declared.{shape}
 use denote.Struct.Struct.{Struct}
 use Rattle.std.proofs.Crossing.{crosses, Vec-send}
 use Rattle.nob_bytes.proofs.owned.Bytes.TheSendSync as bytes
-use Rattle.nob_dispatch_objects.specs.declared.object.Object as Object
 use Rattle.nob_keeper.proofs.Crossing.{seat_send}
 use Rattle.nob_model_types.specs.contracts.answer.Job as Job
 use Rattle.nob_model_types.specs.contracts.event.Event as Event
@@ -47,7 +46,7 @@ stage_send : IsSend (Stage.the_field).row
 stage_send = search (request_send, ending_send, crosses, sendable) depth 60 fits 20000
 
 -- what a worker and a dispatcher have, where the object may cross
-module _ (O : RattleType) (g : Object.Ghosts O.Denot) (crossing : IsSend O) where
+module _ (O : RattleType) (crossing : IsSend O) where
   errand_field_send : IsSend (Errand.the_field O).row
   errand_field_send = struct_send (shape (Errand.the_type O)) (job_field_send, (search (crossing, sendable), tt))
 

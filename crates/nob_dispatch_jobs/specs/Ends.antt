@@ -1,9 +1,10 @@
 -- Jobs and receipts: what is claimed and what is ended. In lists of receipts, and of jobs that are read off them, the newest stands FIRST.
-use Rattle.std.specs.Prelude.{ℕ, Bool, true, false, List, [], ◌∷◌, Option, Some, None, Result, Ok, Err}
+use Rattle.std.specs.Prelude.{ℕ, Bool, true, false, List, [], ◌∷◌, map, Option, Some, None, Result, Ok, Err}
 use Rattle.nob_model_types.specs.declared.event.Event.{Event}
 use Rattle.nob_model_types.specs.declared.event.Event.TheVariants as events
 use Rattle.nob_model_types.specs.declared.answer.Answer.{Answer}
 use Rattle.nob_model_types.specs.declared.answer.Answer.TheVariants as answers
+use Rattle.nob_model_types.specs.declared.answer.Job.{Job}
 use Rattle.nob_model_types.specs.declared.refusal.Refusal.{Refusal}
 use Rattle.nob_keeper.specs.declared.receipt.Receipt.{Receipt}
 
@@ -33,23 +34,23 @@ abbrev pub is_claim : Event → Bool
 is_claim events.Claim = true
 is_claim _ = false
 
--- a job in front of others, if there is one
-abbrev pub with_job : Option ℕ → List ℕ → List ℕ
+-- a job, or its number, in front of others, if there is one
+abbrev pub with_job : {X : Type 0} → Option X → List X → List X
 with_job None others = others
 with_job (Some job) others = job ∷ others
 
 -- the job that a result gives
-abbrev pub job_of : Result Answer Refusal → Option ℕ
-job_of (Ok (answers.Job job)) = Some job.job
+abbrev pub job_of : Result Answer Refusal → Option Job
+job_of (Ok (answers.Job job)) = Some job
 job_of _ = None
 
 -- the job that a result of an event gives, where it was a Claim
-abbrev pub claimed_if : (was_claim : Bool) → Result Answer Refusal → Option ℕ
+abbrev pub claimed_if : (was_claim : Bool) → Result Answer Refusal → Option Job
 claimed_if true result = job_of result
 claimed_if false result = None
 
 -- the jobs that were claimed by receipts
-abbrev pub claimed : List Receipt → List ℕ
+abbrev pub claimed : List Receipt → List Job
 claimed [] = []
 claimed (receipt ∷ earlier) = with_job (claimed_if (is_claim receipt.event) receipt.result) (claimed earlier)
 
@@ -57,3 +58,17 @@ claimed (receipt ∷ earlier) = with_job (claimed_if (is_claim receipt.event) re
 abbrev pub was_accepted : List Receipt → Bool
 was_accepted [] = false
 was_accepted (receipt ∷ earlier) = is_accepted receipt.result
+
+-- the numbers of jobs
+abbrev pub numbers : List Job → List ℕ
+numbers jobs = map (λ job. job.job) jobs
+
+-- the number of a job, if there is one
+abbrev pub number_in : Option Job → Option ℕ
+number_in None = None
+number_in (Some job) = Some job.job
+
+-- the index of the object that a job calls, if there is one
+abbrev pub target_in : Option Job → Option ℕ
+target_in None = None
+target_in (Some job) = Some job.target

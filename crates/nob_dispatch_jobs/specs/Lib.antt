@@ -2,4 +2,5 @@ pub use Rattle.nob_keeper.specs.declared.error.KeeperError
 pub mod Shelves
 pub mod Ends
 pub mod Working
+pub mod Telling
 pub mod Dispatching

@@ -1,8 +1,8 @@
 //! Who claims jobs.
 
-ghost use Rattle.std.specs.Prelude.{◌≡◌, ◌≢◌, ◌<◌, ◌+◌, ◌∷◌, [], ⊤, ℕ, List, true, false, None, Some, length, slice_index_or, OnOk, OnErr, IfOk, IfSome, MatchOption, MatchResult};
+ghost use Rattle.std.specs.Prelude.{◌≡◌, ◌≢◌, ◌<◌, ◌+◌, ◌∷◌, [], ⊤, ℕ, List, true, false, None, Some, Ok, length, slice_index_or, OnOk, OnErr, IfOk, IfSome, MatchOption, MatchResult};
 ghost use Rattle.nob_model_types.specs.declared.answer.Job.{Job as JobOf};
-ghost use Rattle.nob_dispatch_lanes.specs.Balance.{times};
+ghost use Rattle.nob_dispatch_lanes.specs.Balance.{weigh};
 ghost use Rattle.nob_dispatch_jobs.specs.Dispatching as dispatching;
 ghost use Rattle.nob_dispatch_jobs.specs.Ends.{claimed};
 ghost use Rattle.nob_dispatch_jobs.specs.Shelves as shelves;
@@ -34,13 +34,28 @@ pub enum Handing<O: Object> {
     Idle,
 }
 
+/// What a dispatcher leaves: all that it had.
+#[derive(Drop)]
+pub struct Remaining<O: Object> {
+    /// Its seat.
+    pub seat: Seat,
+    /// The objects.
+    pub shelf: Shelf<O>,
+    /// Whether the job of the newest receipt wasn't handed on yet.
+    pub is_due: bool,
+    /// The jobs whose objects are away, the first claimed first.
+    pub waiting: Vec<Job>,
+    /// The job that wasn't ended yet, whose object isn't there.
+    pub ending: Option<JobNo>,
+}
+
 /// Who claims the jobs of a space, over a seat of its own, and hands each on with its object.
 #[derive(Drop)]
 pub struct Dispatcher<O: Object> {
     seat: Seat,
     shelf: Shelf<O>,
-    // The job of the newest receipt, where it isn't handed on yet.
-    due: Option<JobNo>,
+    // Whether the job of the newest receipt is to be handed on.
+    is_due: bool,
     // The jobs whose objects are away, the first claimed first.
     waiting: Vec<Job>,
     // What ends a job whose object isn't there.
@@ -48,7 +63,7 @@ pub struct Dispatcher<O: Object> {
 }
 
 impl<O: Object> Model for Dispatcher<O> {
-    ghost use Rattle.nob_dispatch_jobs.specs.Dispatching.{Dispatching, numbers, job_in};
+    ghost use Rattle.nob_dispatch_jobs.specs.Dispatching.{Dispatching, job_in};
 
     ghost Value = { Dispatching O };
 
@@ -60,8 +75,8 @@ impl<O: Object> Model for Dispatcher<O> {
     ghost view = { λ dispatcher. record {
       receipts = dispatcher.seat;
       shelf = dispatcher.shelf;
-      due = dispatcher.due;
-      waiting = numbers dispatcher.waiting.items;
+      is_due = dispatcher.is_due;
+      waiting = dispatcher.waiting.items;
       ending = job_in dispatcher.ending;
     } };
 }
@@ -74,7 +89,7 @@ impl<O: Object> Dispatcher<O> {
         ensures new { result ≡ record {
           receipts = [];
           shelf = [];
-          due = None;
+          is_due = false;
           waiting = [];
           ending = None;
         } }
@@ -83,7 +98,7 @@ impl<O: Object> Dispatcher<O> {
         Dispatcher {
             seat,
             shelf: Shelf::new(alloc),
-            due: None,
+            is_due: false,
             waiting: Vec::new(alloc),
             ending: None,
         }
@@ -156,10 +171,10 @@ impl<O: Object> Dispatcher<O> {
     /// Whether it keeps no job: none is to be handed on, none waits for its object, and none is to
     /// be ended.
     pub fn is_at_rest(&self) -> bool
-        ensures rest { result ≡ true → dispatching.kept self.now ≡ [] }
-        ensures busy { result ≡ false → dispatching.kept self.now ≢ [] }
+        ensures rest { result ≡ true → dispatching.IsAtRest self.now }
+        ensures busy { result ≡ false → dispatching.IsAtRest self.now → ⊥ }
     {
-        self.due.is_none() && self.ending.is_none() && self.waiting.is_empty()
+        !self.is_due && self.ending.is_none() && self.waiting.is_empty()
     }
 
     /// One turn: the next job whose object is here is handed on with it. A job whose object isn't
@@ -170,7 +185,7 @@ impl<O: Object> Dispatcher<O> {
         rt: &R,
         keeper: &C,
     ) -> Result<Handing<O>, KeeperError>
-        ensures tied { (handed : List ℕ) → dispatching.IsTied handed self.old
+        ensures tied { (handed : List JobOf) → dispatching.IsTied handed self.old
             → dispatching.IsTied (dispatching.with_handed result handed) self.new }
         ensures object { dispatching.HandsOver result self.old.shelf self.new.shelf }
     {
@@ -184,7 +199,7 @@ impl<O: Object> Dispatcher<O> {
         rt: &R,
         keeper: &C,
     ) -> Result<Handing<O>, KeeperError>
-        ensures tied { (handed : List ℕ) → dispatching.IsTied handed self.old
+        ensures tied { (handed : List JobOf) → dispatching.IsTied handed self.old
             → dispatching.IsTied (dispatching.with_handed result handed) self.new }
         ensures object { dispatching.HandsOver result self.old.shelf self.new.shelf }
         ensures claims { claimed self.new.receipts ≡ claimed self.old.receipts }
@@ -199,28 +214,44 @@ impl<O: Object> Dispatcher<O> {
         keeper: &C,
         claims: bool,
     ) -> Result<Handing<O>, KeeperError>
-        ensures tied { (handed : List ℕ) → dispatching.IsTied handed self.old
+        ensures tied { (handed : List JobOf) → dispatching.IsTied handed self.old
             → dispatching.IsTied (dispatching.with_handed result handed) self.new }
         ensures object { dispatching.HandsOver result self.old.shelf self.new.shelf }
         ensures claims { claims ≡ false
             → claimed self.new.receipts ≡ claimed self.old.receipts }
     {
+        // First of all, for a Finish would hide the receipt of its Claim.
+        if self.is_due {
+            return self.hand_on();
+        }
         if self.ending.is_some() {
             return self.finish(rt, keeper);
         }
-        if let Some(job) = take_waiting(&self.shelf, &mut self.waiting) {
-            return match serve(&mut self.shelf, &mut self.ending, job) {
-                Some(errand) => Ok(Handing::Errand(errand)),
-                None => Ok(Handing::Did),
-            };
+        match self.serve_waiting() {
+            Some(handing) => Ok(handing),
+            None if claims => self.claim(rt, keeper),
+            None => Ok(Handing::Idle),
         }
-        if self.due.is_some() {
-            return self.hand_on();
-        }
-        if !claims {
-            return Ok(Handing::Idle);
-        }
-        self.claim(rt, keeper)
+    }
+
+    // Hands the first job on that waits for no object any more: `None` where each does.
+    fn serve_waiting(&mut self) -> Option<Handing<O>>
+        requires due { self.old.is_due ≡ false }
+        requires ending { self.old.ending ≡ None }
+        ensures tied { MatchOption result (self.new ≡ self.old)
+            (λ handing. (handed : List JobOf) → dispatching.IsTied handed self.old
+            → dispatching.IsTied (dispatching.with_handed (Ok handing) handed) self.new) }
+        ensures object { IfSome result (λ handing.
+            dispatching.HandsOver (Ok handing) self.old.shelf self.new.shelf) }
+        ensures receipts { self.new.receipts ≡ self.old.receipts }
+    {
+        let Some(job) = take_waiting(&self.shelf, &mut self.waiting) else {
+            return None;
+        };
+        let Some(errand) = serve(&mut self.shelf, &mut self.ending, job) else {
+            return Some(Handing::Did);
+        };
+        Some(Handing::Errand(errand))
     }
 
     // The Finish of a job whose object isn't there.
@@ -229,7 +260,8 @@ impl<O: Object> Dispatcher<O> {
         rt: &R,
         keeper: &C,
     ) -> Result<Handing<O>, KeeperError>
-        ensures tied { (handed : List ℕ) → dispatching.IsTied handed self.old
+        requires { self.old.is_due ≡ false }
+        ensures tied { (handed : List JobOf) → dispatching.IsTied handed self.old
             → dispatching.IsTied (dispatching.with_handed result handed) self.new }
         ensures object { dispatching.HandsOver result self.old.shelf self.new.shelf }
         ensures claims { claimed self.new.receipts ≡ claimed self.old.receipts }
@@ -248,8 +280,8 @@ impl<O: Object> Dispatcher<O> {
 
     // Claims a job, if there is one.
     fn claim<R: Wait, C: JobCalls>(&mut self, rt: &R, keeper: &C) -> Result<Handing<O>, KeeperError>
-        requires { self.old.due ≡ None }
-        ensures tied { (handed : List ℕ) → dispatching.IsTied handed self.old
+        requires { self.old.is_due ≡ false }
+        ensures tied { (handed : List JobOf) → dispatching.IsTied handed self.old
             → dispatching.IsTied (dispatching.with_handed result handed) self.new }
         ensures object { dispatching.HandsOver result self.old.shelf self.new.shelf }
     {
@@ -257,54 +289,58 @@ impl<O: Object> Dispatcher<O> {
             return Ok(Handing::Idle);
         }
         keeper.call(rt, &mut self.seat, &Event::Claim)?;
-        self.due = claimed_by(&self.seat);
-        if self.due.is_none() {
+        self.is_due = has_job(&self.seat);
+        if !self.is_due {
             return Ok(Handing::Idle);
         }
         Ok(Handing::Did)
     }
 
-    // Hands the claimed job on, or keeps it where its object is away.
+    // Hands the claimed job on, or keeps it where its object is away, or another job is to be ended
+    // first.
     fn hand_on(&mut self) -> Result<Handing<O>, KeeperError>
-        requires { self.old.ending ≡ None }
-        ensures tied { (handed : List ℕ) → dispatching.IsTied handed self.old
+        requires { self.old.is_due ≡ true }
+        ensures tied { (handed : List JobOf) → dispatching.IsTied handed self.old
             → dispatching.IsTied (dispatching.with_handed result handed) self.new }
         ensures object { dispatching.HandsOver result self.old.shelf self.new.shelf }
         ensures claims { claimed self.new.receipts ≡ claimed self.old.receipts }
     {
-        let Some(due) = self.due else {
-            return Ok(Handing::Idle);
+        let Some(job) = newest_job(&self.seat)? else {
+            self.is_due = false;
+            return Ok(Handing::Did);
         };
-        let Some(job) = due_job(&self.seat, due)? else {
-            return Ok(Handing::Later);
-        };
-        if is_away(&self.shelf, job.target) {
+        if must_wait(&self.shelf, &self.ending, job.target) {
             let Ok(()) = self.waiting.push(job) else {
                 return Err(KeeperError::OutOfMemory);
             };
-            self.due = None;
+            self.is_due = false;
             return Ok(Handing::Did);
         }
-        self.due = None;
+        self.is_due = false;
         match serve(&mut self.shelf, &mut self.ending, job) {
             Some(errand) => Ok(Handing::Errand(errand)),
             None => Ok(Handing::Did),
         }
     }
 
-    /// Its parts: its seat, the objects, and the jobs whose objects are away.
-    pub fn end(self) -> (Seat, Shelf<O>, Vec<Job>)
-        ensures seat { result.0 ≡ self.receipts }
-        ensures shelf { result.1 ≡ self.shelf }
-        ensures waiting { dispatching.numbers result.2.items ≡ self.waiting }
+    /// All that it has.
+    pub fn end(self) -> Remaining<O>
+        ensures { dispatching.IsLeft result self }
     {
         let Dispatcher {
             seat,
             shelf,
+            is_due,
             waiting,
-            ..
+            ending,
         } = self;
-        (seat, shelf, waiting)
+        Remaining {
+            seat,
+            shelf,
+            is_due,
+            waiting,
+            ending: job_in(&ending),
+        }
     }
 }
 
@@ -316,6 +352,18 @@ fn is_away<O: Object>(shelf: &Shelf<O>, index: u64) -> bool
         Some(Place::Away) => true,
         _ => false,
     }
+}
+
+// Whether a job has to wait: its object is away, or another job is to be ended.
+fn must_wait<O: Object>(shelf: &Shelf<O>, ending: &Option<Finish>, index: u64) -> bool
+    ensures here { result ≡ false
+        → shelves.is_away (shelves.place_of index shelf.now) ≡ false }
+    ensures free { result ≡ false → dispatching.job_in ending.now ≡ None }
+{
+    if ending.is_some() {
+        return true;
+    }
+    is_away(shelf, index)
 }
 
 // The place of the first job whose object isn't away.
@@ -336,8 +384,8 @@ fn first_served<O: Object>(shelf: &Shelf<O>, waiting: &[Job]) -> Option<usize>
 fn take_at(waiting: &mut Vec<Job>, place: usize) -> Job
     requires { place < length waiting.old.items }
     ensures job { result ≡ slice_index_or waiting.old.items place result }
-    ensures once { (number : ℕ) → times number (dispatching.numbers waiting.old.items)
-        ≡ times number (result.job ∷ dispatching.numbers waiting.new.items) }
+    ensures once { (weight : JobOf → ℕ) → weigh weight waiting.old.items
+        ≡ weigh weight (result ∷ waiting.new.items) }
 {
     waiting.remove(place)
 }
@@ -345,9 +393,9 @@ fn take_at(waiting: &mut Vec<Job>, place: usize) -> Job
 // Takes out the first job whose object isn't away.
 fn take_waiting<O: Object>(shelf: &Shelf<O>, waiting: &mut Vec<Job>) -> Option<Job>
     ensures once { MatchOption result
-        (dispatching.numbers waiting.new.items ≡ dispatching.numbers waiting.old.items)
-        (λ job. (number : ℕ) → times number (dispatching.numbers waiting.old.items)
-        ≡ times number (job.job ∷ dispatching.numbers waiting.new.items)) }
+        (waiting.new.items ≡ waiting.old.items)
+        (λ job. (weight : JobOf → ℕ) → weigh weight waiting.old.items
+        ≡ weigh weight (job ∷ waiting.new.items)) }
     ensures served { IfSome result (λ job.
         shelves.is_away (shelves.place_of job.target shelf.now) ≡ false) }
 {
@@ -368,7 +416,7 @@ fn serve<O: Object>(
     ensures absent { MatchOption result (shelves.place_of job.target shelf.old ≡ None)
         (λ _. ⊤) }
     ensures served { MatchOption result (shelf.new ≡ shelf.old)
-        (λ errand. dispatching.IsHanded errand job.job shelf.old shelf.new) }
+        (λ errand. dispatching.IsHanded errand job shelf.old shelf.new) }
     ensures ending { MatchOption result (dispatching.job_in ending.new ≡ Some job.job)
         (λ _. ending.new ≡ ending.old) }
 {
@@ -379,22 +427,32 @@ fn serve<O: Object>(
     Some(Errand { job, object })
 }
 
-// The number of the job that the newest receipt gives.
-fn claimed_by(seat: &Seat) -> Option<JobNo>
-    ensures { result ≡ dispatching.newest_job seat.now }
+// The number of the job that a Finish ends, if there is one.
+fn job_in(ending: &Option<Finish>) -> Option<JobNo>
+    ensures { result ≡ dispatching.job_in ending.now }
 {
-    match seat.newest() {
-        Some(receipt) => match &receipt.result {
-            Ok(Answer::Job(job)) => Some(job.job),
-            _ => None,
-        },
+    match ending {
+        Some(finish) => Some(finish.job),
         None => None,
     }
 }
 
-// A copy of the job that the newest receipt gives, if it has this number.
-fn due_job(seat: &Seat, due: JobNo) -> Result<Option<Job>, KeeperError>
-    ensures { IfOk result (λ job. IfSome job (λ job. job.job ≡ due)) }
+// Whether the newest receipt gives a job.
+fn has_job(seat: &Seat) -> bool
+    ensures none { result ≡ false → dispatching.newest_job seat.now ≡ None }
+{
+    match seat.newest() {
+        Some(receipt) => match &receipt.result {
+            Ok(Answer::Job(_)) => true,
+            _ => false,
+        },
+        None => false,
+    }
+}
+
+// A copy of the job that the newest receipt gives. Only memory fails it.
+fn newest_job(seat: &Seat) -> Result<Option<Job>, KeeperError>
+    ensures { IfOk result (λ job. job ≡ dispatching.newest_job seat.now) }
 {
     let Some(receipt) = seat.newest() else {
         return Ok(None);
@@ -402,9 +460,6 @@ fn due_job(seat: &Seat, due: JobNo) -> Result<Option<Job>, KeeperError>
     let Ok(Answer::Job(job)) = &receipt.result else {
         return Ok(None);
     };
-    if job.job != due {
-        return Ok(None);
-    }
     match job.copy() {
         Ok(job) => Ok(Some(job)),
         Err(_) => Err(KeeperError::OutOfMemory),

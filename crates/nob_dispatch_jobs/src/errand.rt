@@ -1,6 +1,5 @@
 //! Errands: jobs with their objects.
 
-use nob_dispatch_lanes::Numbered;
 use nob_dispatch_objects::Object;
 use nob_ids::JobNo;
 use nob_model_types::Job;
@@ -14,10 +13,6 @@ pub struct Errand<O: Object> {
     pub object: O,
 }
 
-impl<O: Object> Numbered for Errand<O> {
-    ghost number = { λ errand. errand.job.job };
-}
-
 /// An object that comes back from the job that it was away with.
 #[derive(Drop)]
 pub struct Return<O: Object> {
@@ -27,8 +22,4 @@ pub struct Return<O: Object> {
     pub index: u64,
     /// The object.
     pub object: O,
-}
-
-impl<O: Object> Numbered for Return<O> {
-    ghost number = { λ back. back.job };
 }

@@ -8,10 +8,11 @@ mod errand;
 mod gate;
 mod shelf;
 mod stage;
+mod telling;
 mod worker;
 
 pub use calls::JobCalls;
-pub use dispatcher::{Dispatcher, Handing};
+pub use dispatcher::{Dispatcher, Handing, Remaining};
 pub use errand::{Errand, Return};
 pub use gate::{Gate, OpenGate};
 pub use nob_keeper::{KeeperError, Seat};

@@ -6,10 +6,10 @@ ghost use Rattle.nob_dispatch_jobs.specs.declared.stage.AfterFinish.TheVariants.
 
 use crate::calls::JobCalls;
 use crate::errand::Errand;
-use nob_dispatch_objects::{Done, Object, Outcome};
+use nob_dispatch_objects::{Object, Outcome};
 use nob_ids::{CallNo, JobNo};
 use nob_keeper::{KeeperError, Seat};
-use nob_model_types::{Answer, Event, Outcome as Ending, Refusal};
+use nob_model_types::{Event, Outcome as Ending, Refusal};
 use nob_pickle::Value;
 use std::sync::Wait;
 
@@ -147,46 +147,5 @@ impl Stage {
                 event: Event::Release(rep),
             }),
         }
-    }
-
-    // What is next after the request of the newest receipt.
-    pub(crate) fn after(seat: &Seat) -> Stage {
-        match seat.newest() {
-            Some(receipt) => match &receipt.result {
-                Ok(Answer::Called(call)) => Stage::Await(*call),
-                _ => Stage::Tell,
-            },
-            None => Stage::Tell,
-        }
-    }
-}
-
-// Whether the newest receipt says that a reply isn't ready.
-pub(crate) fn is_not_ready(seat: &Seat) -> bool {
-    match seat.newest() {
-        Some(receipt) => match &receipt.result {
-            Err(Refusal::NotReady) => true,
-            _ => false,
-        },
-        None => false,
-    }
-}
-
-// What a method is told of the newest receipt. Only memory fails it.
-pub(crate) fn done_of(seat: &Seat) -> Result<Done, KeeperError> {
-    let Some(receipt) = seat.newest() else {
-        return Ok(Done::Made);
-    };
-    match &receipt.result {
-        Ok(Answer::Replied(status, value)) => match value.copy() {
-            Ok(value) => Ok(Done::Replied {
-                status: *status,
-                value,
-            }),
-            Err(_) => Err(KeeperError::OutOfMemory),
-        },
-        Ok(Answer::Ended) => Ok(Done::Ended),
-        Ok(_) => Ok(Done::Made),
-        Err(refusal) => Ok(Done::Refused(*refusal)),
     }
 }

@@ -1,13 +1,14 @@
 //! Who carries jobs out.
 
-ghost use Rattle.std.specs.Prelude.{◌≡◌, ◌≢◌, ◌∷◌, [], Some, None, OnOk, OnErr, IfErr, IfSome, MatchOption};
+ghost use Rattle.std.specs.Prelude.{◌≡◌, ◌≢◌, ◌∷◌, [], Some, None, true, OnOk, OnErr, IfErr, IfSome, MatchOption};
 ghost use Rattle.nob_dispatch_jobs.specs.Ends.{ended};
 ghost use Rattle.nob_dispatch_jobs.specs.Working as working;
 
 use crate::calls::JobCalls;
 use crate::errand::{Errand, Return};
 use crate::gate::Gate;
-use crate::stage::{AfterFinish, Finish, Keeping, Stage, done_of, is_not_ready};
+use crate::stage::{AfterFinish, Finish, Keeping, Stage};
+use crate::telling::{done_of, is_not_ready, stage_after};
 use nob_dispatch_objects::Object;
 use nob_ids::JobNo;
 use nob_keeper::{KeeperError, Seat};
@@ -30,8 +31,8 @@ pub enum Progress<O: Object> {
     Idle,
 }
 
-/// Who carries jobs out, one at a time, over a seat of its own. Contracts see its receipts, the job
-/// that it keeps, and the index of the object that it has.
+/// Who carries jobs out, one at a time, over a seat of its own. Contracts see its receipts, the
+/// number of the job that it keeps, and that job while it has its object.
 #[derive(Drop)]
 pub struct Worker<O: Object> {
     seat: Seat,
@@ -39,7 +40,7 @@ pub struct Worker<O: Object> {
 }
 
 impl<O: Object> Model for Worker<O> {
-    ghost use Rattle.nob_dispatch_jobs.specs.Working.{Working, job_in, object_in};
+    ghost use Rattle.nob_dispatch_jobs.specs.Working.{Working, job_in, running_in};
 
     ghost Value = { Working };
 
@@ -51,7 +52,7 @@ impl<O: Object> Model for Worker<O> {
     ghost view = { λ worker. record {
       receipts = worker.seat;
       job = job_in worker.keeping;
-      object = object_in worker.keeping;
+      running = running_in worker.keeping;
     } };
 }
 
@@ -59,7 +60,7 @@ impl<O: Object> Worker<O> {
     /// A worker over a seat, which keeps no job. The caller's condition: the seat is unused.
     pub fn new(seat: Seat) -> Worker<O>
         requires { seat ≡ [] }
-        ensures { result ≡ record { receipts = []; job = None; object = None } }
+        ensures { result ≡ record { receipts = []; job = None; running = None } }
     {
         Worker {
             seat,
@@ -69,7 +70,8 @@ impl<O: Object> Worker<O> {
 
     /// Whether it keeps no job.
     pub fn is_free(&self) -> bool
-        ensures { result ≡ working.is_free self.now }
+        ensures free { result ≡ working.is_free self.now }
+        ensures idle { result ≡ true → self.now.running ≡ None }
     {
         match &self.keeping {
             Keeping::Nothing => true,
@@ -80,7 +82,7 @@ impl<O: Object> Worker<O> {
     /// Takes an errand, if it keeps no job: else the errand comes back.
     pub fn take(&mut self, errand: Errand<O>) -> Result<(), Errand<O>>
         ensures took { OnOk result (self.new ≡ working.with_errand errand self.old) }
-        ensures free { OnOk result (self.old.job ≡ None) }
+        ensures free { OnOk result ((self.old.job ≡ None) × (self.old.running ≡ None)) }
         ensures got { OnOk result (working.got self.new
             ≡ errand.job.job ∷ working.got self.old) }
         ensures back { IfErr result (λ back. (back ≡ errand) × (self.old.job ≢ None)) }
@@ -125,8 +127,7 @@ impl<O: Object> Worker<O> {
 
     // The object comes back from a method that has ended. Else nothing is moved.
     fn hand_back(&mut self) -> Option<Return<O>>
-        ensures back { IfSome result (λ back. (self.old.job ≡ Some back.job)
-            × (self.old.object ≡ Some back.index)) }
+        ensures back { IfSome result (λ back. working.ComesFrom back self.old) }
         ensures given { MatchOption result (self.new ≡ self.old)
             (λ _. self.new ≡ working.without_object self.old) }
     {
@@ -184,6 +185,7 @@ impl<O: Object> Worker<O> {
         keeper: &C,
         gate: &G,
     ) -> Result<Progress<O>, KeeperError>
+        requires { self.old.running ≡ None }
         ensures got { working.got self.new ≡ working.got self.old }
         ensures objects { working.GivesBack result self.old self.new }
         ensures free { working.IsFreeAfter result self.new }
@@ -210,8 +212,8 @@ impl<O: Object> Worker<O> {
     /// comes back, where it hasn't yet.
     pub fn give_up(&mut self) -> Option<Return<O>>
         ensures freed { self.new ≡ working.freed self.old }
-        ensures back { MatchOption result (working.held self.old ≡ None)
-            (λ back. (self.old.job ≡ Some back.job) × (self.old.object ≡ Some back.index)) }
+        ensures back { MatchOption result (self.old.running ≡ None)
+            (λ back. working.ComesFrom back self.old) }
     {
         let keeping = std::mem::replace(&mut self.keeping, Keeping::Nothing);
         match keeping {
@@ -230,6 +232,8 @@ impl<O: Object> Worker<O> {
     /// Its parts: its seat, and the errand that it keeps, if its method hasn't ended.
     pub fn end(self) -> (Seat, Option<Errand<O>>)
         ensures seat { result.0 ≡ self.receipts }
+        ensures errand { MatchOption result.1 (self.running ≡ None)
+            (λ errand. self.running ≡ Some errand.job) }
     {
         let Worker { seat, keeping } = self;
         match keeping {
@@ -260,7 +264,7 @@ fn advance<O: Object, R: Wait, C: JobCalls, G: Gate>(
         }
         Stage::Ask(request) => {
             keeper.call(rt, seat, &request.event)?;
-            *stage = Stage::after(seat);
+            *stage = stage_after(seat);
             Ok(true)
         }
         Stage::Await(call) => {

@@ -7,13 +7,13 @@ use Rattle.nob_dispatch_lanes.specs.declared.ends.LaneTake.{LaneTake}
 use Rattle.nob_dispatch_lanes.specs.Balance.{all_parts}
 use Rattle.nob_dispatch_lanes.specs.Ends.{parts_of, given_by, got_by}
 
--- the numbers that these ends gave
-abbrev pub all_given : {X : Type 0} → List (LanePut X) → List ℕ
+-- the errands that these ends gave
+abbrev pub all_given : {X : Type 0} → List (LanePut X) → List X
 all_given [] = []
 all_given (end ∷ ends) = given_by end.pass ++ all_given ends
 
--- the numbers that these ends got
-abbrev pub all_got : {X : Type 0} → List (LaneTake X) → List ℕ
+-- the errands that these ends got
+abbrev pub all_got : {X : Type 0} → List (LaneTake X) → List X
 all_got [] = []
 all_got (end ∷ ends) = got_by end.pass ++ all_got ends
 

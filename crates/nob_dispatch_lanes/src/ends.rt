@@ -6,15 +6,15 @@ ghost use Rattle.crossbeam_channel.specs.Ends.{sends_on, receives_on, ruled_capa
 ghost use Rattle.nob_dispatch_lanes.specs.Ends.{parts_of, given_by, got_by, IsGiver, IsGetter};
 
 use crate::fault::Gone;
-use crate::rule::{Fair, Get, Give, Numbered, Tally};
+use crate::rule::{Fair, Get, Give, Tally};
 use crossbeam_channel::{Pass, RuledReceiver, RuledSender};
 use std::sync::Wait;
 
 /// An end of a lane that gives errands. It knows whether it was answered H1.
 #[derive(Drop)]
-pub struct LanePut<T: Numbered + Drop> {
-    pub(crate) sender: RuledSender<T, Tally, Fair>,
-    pub(crate) pass: Pass<T, Tally>,
+pub struct LanePut<T: Drop> {
+    pub(crate) sender: RuledSender<T, Tally<T>, Fair>,
+    pub(crate) pass: Pass<T, Tally<T>>,
     pub(crate) has_heard_gone: bool,
     pub ghost seated: { IsSeatAt (sends_on sender) pass },
     pub ghost gives: { IsGiver pass },
@@ -23,14 +23,14 @@ pub struct LanePut<T: Numbered + Drop> {
 
 /// An end of a lane that gets errands.
 #[derive(Drop)]
-pub struct LaneTake<T: Numbered + Drop> {
-    pub(crate) receiver: RuledReceiver<T, Tally, Fair>,
-    pub(crate) pass: Pass<T, Tally>,
+pub struct LaneTake<T: Drop> {
+    pub(crate) receiver: RuledReceiver<T, Tally<T>, Fair>,
+    pub(crate) pass: Pass<T, Tally<T>>,
     pub ghost seated: { IsSeatAt (receives_on receiver) pass },
     pub ghost gets: { IsGetter pass },
 }
 
-impl<T: Numbered + Drop> LanePut<T> {
+impl<T: Drop> LanePut<T> {
     /// Whether it was answered H1: it has heard that nobody gets from the lane any more.
     pub fn has_heard_gone(&self) -> bool
         ensures { result ≡ self.now.has_heard_gone }
@@ -42,7 +42,7 @@ impl<T: Numbered + Drop> LanePut<T> {
     /// errand comes back. It takes no memory.
     pub fn give_as<R: Wait>(&mut self, rt: &R, errand: T) -> Result<(), Gone<T>>
         ensures answer { MatchResult result
-            (λ _. given_by self.new.pass ≡ given_by self.old.pass ++ T.number errand ∷ [])
+            (λ _. given_by self.new.pass ≡ given_by self.old.pass ++ errand ∷ [])
             (λ gone. gone.errand ≡ errand) }
         ensures err { OnErr result (given_by self.new.pass ≡ given_by self.old.pass) }
         ensures gone { MatchResult result (λ _. self.new.has_heard_gone ≡ self.old.has_heard_gone)
@@ -62,12 +62,12 @@ impl<T: Numbered + Drop> LanePut<T> {
     }
 }
 
-impl<T: Numbered + Drop> LaneTake<T> {
+impl<T: Drop> LaneTake<T> {
     /// Gets the next errand, and waits while there is none. `None` where there is none and nobody
     /// gives any more.
     pub fn get_as<R: Wait>(&mut self, rt: &R) -> Option<T>
         ensures answer { MatchOption result (got_by self.new.pass ≡ got_by self.old.pass)
-            (λ errand. got_by self.new.pass ≡ got_by self.old.pass ++ T.number errand ∷ []) }
+            (λ errand. got_by self.new.pass ≡ got_by self.old.pass ++ errand ∷ []) }
         ensures lane { receives_on self.new.receiver ≡ receives_on self.old.receiver }
         ensures parts { parts_of self.new.pass ≡ parts_of self.old.pass }
     {
@@ -78,7 +78,7 @@ impl<T: Numbered + Drop> LaneTake<T> {
     /// thread is just giving or getting one.
     pub fn try_get_as<R: Wait>(&mut self, rt: &R) -> Option<T>
         ensures answer { MatchOption result (got_by self.new.pass ≡ got_by self.old.pass)
-            (λ errand. got_by self.new.pass ≡ got_by self.old.pass ++ T.number errand ∷ []) }
+            (λ errand. got_by self.new.pass ≡ got_by self.old.pass ++ errand ∷ []) }
         ensures lane { receives_on self.new.receiver ≡ receives_on self.old.receiver }
         ensures parts { parts_of self.new.pass ≡ parts_of self.old.pass }
     {

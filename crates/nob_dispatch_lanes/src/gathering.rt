@@ -1,23 +1,23 @@
 //! How a lane ends: all its ends give what is left.
 
-ghost use Rattle.std.specs.Prelude.{◌≡◌, ◌≤◌, ◌<◌, ◌+◌, ◌++◌, [], ℕ, map, length, vec_capacity, MatchResult};
+ghost use Rattle.std.specs.Prelude.{◌≡◌, ◌≤◌, ◌<◌, ◌+◌, ◌++◌, [], ℕ, length, vec_capacity, MatchResult};
 ghost use Rattle.std.specs.List.{AllByRecursion};
 ghost use Rattle.crossbeam_channel.specs.Claims.{IsSeatAt};
 ghost use Rattle.crossbeam_channel.specs.Ends.{sends_on, receives_on};
-ghost use Rattle.nob_dispatch_lanes.specs.Balance.{all_parts, weigh, times, count};
+ghost use Rattle.nob_dispatch_lanes.specs.Balance.{all_parts, weigh, count};
 ghost use Rattle.nob_dispatch_lanes.specs.Ends.{parts_of, given_by, got_by};
 ghost use Rattle.nob_dispatch_lanes.specs.Lanes.{AreAllEnds, IsOneLane, all_given, all_got, getting_parts, giving_parts};
 
 use crate::MOST_ERRANDS;
 use crate::ends::{LanePut, LaneTake};
-use crate::rule::{Cut, Fair, Numbered, Rest, Tally};
+use crate::rule::{Cut, Fair, Rest, Tally};
 use crossbeam_channel::{Pass, RuledReceiver, RuledSender};
 use std::alloc::Global;
 use std::sync::Wait;
 
-/// What was given and not got, by all ends of one lane: so each number that was given was got, or is
+/// What was given and not got, by all ends of one lane: so each errand that was given was got, or is
 /// here, as often. All ends come back for want of memory. Linear in the ends and in what is left.
-pub fn gather<T: Numbered + Drop, R: Wait>(
+pub fn gather<T: Drop, R: Wait>(
     rt: &R,
     alloc: Global,
     puts: Vec<LanePut<T>>,
@@ -27,8 +27,8 @@ pub fn gather<T: Numbered + Drop, R: Wait>(
     requires puts { 1 ≤ length puts.items }
     requires takes { 1 ≤ length takes.items }
     ensures answer { MatchResult result
-        (λ rest. (number : ℕ) → times number (all_given puts.items)
-        ≡ times number (all_got takes.items) + times number (map T.number rest.items))
+        (λ rest. (weight : T → ℕ) → weigh weight (all_given puts.items)
+        ≡ weigh weight (all_got takes.items) + weigh weight rest.items)
         (λ ends. (ends.0 ≡ puts) × (ends.1 ≡ takes)) }
 {
     let Ok(room) = Vec::with_capacity(alloc, MOST_ERRANDS) else {
@@ -49,11 +49,11 @@ pub fn gather<T: Numbered + Drop, R: Wait>(
 }
 
 // What two passes of a lane know, in one.
-fn join<T: Numbered + Drop>(
-    sender: &RuledSender<T, Tally, Fair>,
-    mut pass: Pass<T, Tally>,
-    other: Pass<T, Tally>,
-) -> Pass<T, Tally>
+fn join<T: Drop>(
+    sender: &RuledSender<T, Tally<T>, Fair>,
+    mut pass: Pass<T, Tally<T>>,
+    other: Pass<T, Tally<T>>,
+) -> Pass<T, Tally<T>>
     requires lane { IsSeatAt (sends_on sender.now) pass × IsSeatAt (sends_on sender.now) other }
     requires some { 0 < parts_of pass }
     ensures lane { IsSeatAt (sends_on sender.now) result }
@@ -66,11 +66,11 @@ fn join<T: Numbered + Drop>(
 }
 
 // What a pass and ends that give know, in one.
-fn join_givers<T: Numbered + Drop>(
-    sender: &RuledSender<T, Tally, Fair>,
-    pass: Pass<T, Tally>,
+fn join_givers<T: Drop>(
+    sender: &RuledSender<T, Tally<T>, Fair>,
+    pass: Pass<T, Tally<T>>,
     mut ends: Vec<LanePut<T>>,
-) -> Pass<T, Tally>
+) -> Pass<T, Tally<T>>
     requires lane { IsSeatAt (sends_on sender.now) pass }
     requires lanes { AllByRecursion (λ end. sends_on end.sender ≡ sends_on sender.now) ends.items }
     requires some { 0 < parts_of pass }
@@ -92,11 +92,11 @@ fn join_givers<T: Numbered + Drop>(
 }
 
 // What a pass and ends that get know, in one.
-fn join_getters<T: Numbered + Drop>(
-    sender: &RuledSender<T, Tally, Fair>,
-    pass: Pass<T, Tally>,
+fn join_getters<T: Drop>(
+    sender: &RuledSender<T, Tally<T>, Fair>,
+    pass: Pass<T, Tally<T>>,
     mut ends: Vec<LaneTake<T>>,
-) -> Pass<T, Tally>
+) -> Pass<T, Tally<T>>
     requires lane { IsSeatAt (sends_on sender.now) pass }
     requires lanes { AllByRecursion (λ end. sends_on sender.now ≡ receives_on end.receiver)
         ends.items }
@@ -118,18 +118,18 @@ fn join_getters<T: Numbered + Drop>(
 }
 
 // Takes all that is left into a vector that has room for it. The pass has all parts.
-fn take_rest<T: Numbered + Drop, R: Wait>(
+fn take_rest<T: Drop, R: Wait>(
     rt: &R,
-    receiver: &RuledReceiver<T, Tally, Fair>,
-    mut pass: Pass<T, Tally>,
+    receiver: &RuledReceiver<T, Tally<T>, Fair>,
+    mut pass: Pass<T, Tally<T>>,
     mut rest: Vec<T>,
 ) -> Vec<T>
     requires lane { IsSeatAt (receives_on receiver.now) pass }
     requires whole { parts_of pass ≡ all_parts }
     requires room { (rest.items ≡ [])
         × (count (given_by pass) ≤ count (got_by pass) + vec_capacity rest) }
-    ensures { (weight : ℕ → ℕ) → weigh weight (given_by pass)
-        ≡ weigh weight (got_by pass) + weigh weight (map T.number result.items) }
+    ensures { (weight : T → ℕ) → weigh weight (given_by pass)
+        ≡ weigh weight (got_by pass) + weigh weight result.items }
 {
     for _ in rt.forever() {
         match receiver.try_recv_as::<Rest, R>(rt, &mut pass) {

@@ -10,13 +10,13 @@ ghost use Rattle.nob_dispatch_lanes.specs.declared.fault.LaneError.TheVariants a
 use crate::MOST_ERRANDS;
 use crate::ends::{LanePut, LaneTake};
 use crate::fault::LaneError;
-use crate::rule::{Cut, Fair, Numbered, Tally};
+use crate::rule::{Cut, Fair, Tally};
 use crossbeam_channel::{RuledReceiver, bounded_with};
 use std::alloc::{AllocError, Global};
 
 /// A new lane that holds at most so many errands, 1 to 1,024: so many ends that give and so many
 /// that get, one of each at least, or H2.
-pub fn lane<T: Numbered + Drop>(
+pub fn lane<T: Drop>(
     alloc: Global,
     capacity: usize,
     puts: usize,
@@ -36,7 +36,7 @@ pub fn lane<T: Numbered + Drop>(
     if capacity == 0 || capacity > MOST_ERRANDS {
         return Err(LaneError::Capacity);
     }
-    let (sender, receiver, pass) = bounded_with::<T, Tally, Fair, Global>(alloc, capacity)?;
+    let (sender, receiver, pass) = bounded_with::<T, Tally<T>, Fair, Global>(alloc, capacity)?;
     let mut first = LanePut {
         sender,
         pass,
@@ -48,10 +48,10 @@ pub fn lane<T: Numbered + Drop>(
 }
 
 // So many ends that get from the lane of the first end that gives, which gives up a part for each.
-fn getters<T: Numbered + Drop>(
+fn getters<T: Drop>(
     alloc: Global,
     first: &mut LanePut<T>,
-    receiver: RuledReceiver<T, Tally, Fair>,
+    receiver: RuledReceiver<T, Tally<T>, Fair>,
     takes: usize,
 ) -> Result<Vec<LaneTake<T>>, AllocError>
     requires lane { receives_on receiver ≡ sends_on first.old.sender }
@@ -76,9 +76,9 @@ fn getters<T: Numbered + Drop>(
 }
 
 // One more end that gets from the lane of an end that gives, which gives up a part for it.
-fn getter<T: Numbered + Drop>(
+fn getter<T: Drop>(
     first: &mut LanePut<T>,
-    receiver: &RuledReceiver<T, Tally, Fair>,
+    receiver: &RuledReceiver<T, Tally<T>, Fair>,
 ) -> Result<LaneTake<T>, AllocError>
     requires lane { receives_on receiver.now ≡ sends_on first.old.sender }
     requires parts { 1 < parts_of first.old.pass }
@@ -97,7 +97,7 @@ fn getter<T: Numbered + Drop>(
 
 // So many ends that give to the lane of the first: the first and others, for each of which it gives
 // up a part.
-fn givers<T: Numbered + Drop>(
+fn givers<T: Drop>(
     alloc: Global,
     mut first: LanePut<T>,
     puts: usize,
@@ -121,7 +121,7 @@ fn givers<T: Numbered + Drop>(
 }
 
 // One more end that gives to the lane of another, which gives up a part for it.
-fn giver<T: Numbered + Drop>(first: &mut LanePut<T>) -> Result<LanePut<T>, AllocError>
+fn giver<T: Drop>(first: &mut LanePut<T>) -> Result<LanePut<T>, AllocError>
     requires parts { 1 < parts_of first.old.pass }
     ensures first { (sends_on first.new.sender ≡ sends_on first.old.sender)
         × (given_by first.new.pass ≡ given_by first.old.pass) }

@@ -1,33 +1,26 @@
 //! The rule of a lane, under which its channel stands: two kinds of step, a giving and a getting.
 
-ghost use Rattle.std.specs.Prelude.{◌≡◌, ℕ};
-
 use crossbeam_channel::protocol::{Join, Lesson, Outcome, Protocol, Split};
 use std::collections::LinkedList;
 
-/// What goes through a lane has a number.
-pub trait Numbered {
-    ghost number: { Self → ℕ };
-}
-
 /// What an end knows. No value of it is made.
-pub struct Tally {
+pub struct Tally<T> {
     /// How many parts it has of the right to know the whole.
     pub parts: u64,
-    /// The numbers that it gave.
-    pub given: LinkedList<u64>,
-    /// The numbers that it got.
-    pub got: LinkedList<u64>,
+    /// The errands that it gave.
+    pub given: LinkedList<T>,
+    /// The errands that it got.
+    pub got: LinkedList<T>,
 }
 
-/// The rule: each number that was given was got or is queued, as often.
+/// The rule: each errand that was given was got or is queued, as often.
 pub struct Fair;
 
-impl<T: Numbered> Protocol<T, Tally> for Fair {
-    ghost use Rattle.std.specs.Prelude.{map, []};
+impl<T> Protocol<T, Tally<T>> for Fair {
+    ghost use Rattle.std.specs.Prelude.{[]};
     ghost use Rattle.nob_dispatch_lanes.specs.Balance.{IsBalanced, tally, all_parts};
 
-    ghost holds = { λ queued views. IsBalanced (map T.number queued) views };
+    ghost holds = { λ queued views. IsBalanced queued views };
 
     ghost first = { tally all_parts [] [] };
 }
@@ -35,7 +28,7 @@ impl<T: Numbered> Protocol<T, Tally> for Fair {
 /// One part for a new end.
 pub struct Cut;
 
-impl Split<Tally> for Cut {
+impl<T> Split<Tally<T>> for Cut {
     ghost use Rattle.std.specs.Prelude.{◌-◌, []};
     ghost use Rattle.nob_dispatch_lanes.specs.Balance.{tally};
 
@@ -44,7 +37,7 @@ impl Split<Tally> for Cut {
     ghost right = { λ v. tally 1 [] [] };
 }
 
-impl Join<Tally> for Cut {
+impl<T> Join<Tally<T>> for Cut {
     ghost use Rattle.std.specs.Prelude.{◌+◌, ◌++◌, []};
     ghost use Rattle.nob_dispatch_lanes.specs.Balance.{tally};
 
@@ -56,14 +49,14 @@ impl Join<Tally> for Cut {
 /// An errand is given.
 pub struct Give;
 
-impl<T: Numbered> Outcome<T, Tally> for Give {
+impl<T> Outcome<T, Tally<T>> for Give {
     ghost use Rattle.std.specs.Prelude.{◌≡◌, ◌++◌, ◌∷◌, []};
     ghost use Rattle.nob_dispatch_lanes.specs.Balance.{tally};
 
-    ghost then = { λ v errand w. w ≡ tally v.parts (v.given ++ T.number errand ∷ []) v.got };
+    ghost then = { λ v errand w. w ≡ tally v.parts (v.given ++ errand ∷ []) v.got };
 }
 
-impl<T: Numbered> Lesson<T, Tally> for Give {
+impl<T> Lesson<T, Tally<T>> for Give {
     ghost use Rattle.std.specs.Prelude.{⊤};
 
     ghost fact = { λ v queued. ⊤ };
@@ -72,14 +65,14 @@ impl<T: Numbered> Lesson<T, Tally> for Give {
 /// An errand is got.
 pub struct Get;
 
-impl<T: Numbered> Outcome<T, Tally> for Get {
+impl<T> Outcome<T, Tally<T>> for Get {
     ghost use Rattle.std.specs.Prelude.{◌≡◌, ◌++◌, ◌∷◌, []};
     ghost use Rattle.nob_dispatch_lanes.specs.Balance.{tally};
 
-    ghost then = { λ v errand w. w ≡ tally v.parts v.given (v.got ++ T.number errand ∷ []) };
+    ghost then = { λ v errand w. w ≡ tally v.parts v.given (v.got ++ errand ∷ []) };
 }
 
-impl<T: Numbered> Lesson<T, Tally> for Get {
+impl<T> Lesson<T, Tally<T>> for Get {
     ghost use Rattle.std.specs.Prelude.{⊤};
 
     ghost fact = { λ v queued. ⊤ };
@@ -88,17 +81,17 @@ impl<T: Numbered> Lesson<T, Tally> for Get {
 /// An errand is got by the end with all parts, which knows what is left.
 pub struct Rest;
 
-impl<T: Numbered> Outcome<T, Tally> for Rest {
+impl<T> Outcome<T, Tally<T>> for Rest {
     ghost use Rattle.std.specs.Prelude.{◌≡◌, ◌<◌, ◌++◌, ◌∷◌, []};
     ghost use Rattle.nob_dispatch_lanes.specs.Balance.{tally, count};
 
-    ghost then = { λ v errand w. (w ≡ tally v.parts v.given (v.got ++ T.number errand ∷ []))
+    ghost then = { λ v errand w. (w ≡ tally v.parts v.given (v.got ++ errand ∷ []))
         × (count v.got < count v.given) };
 }
 
-impl<T: Numbered> Lesson<T, Tally> for Rest {
-    ghost use Rattle.std.specs.Prelude.{◌≡◌, ◌+◌, ◌≤◌, ℕ, map, length};
+impl<T> Lesson<T, Tally<T>> for Rest {
+    ghost use Rattle.std.specs.Prelude.{◌≡◌, ◌+◌, ◌≤◌, ℕ, length};
     ghost use Rattle.nob_dispatch_lanes.specs.Balance.{weigh};
 
-    ghost fact = { λ v queued. ((weight : ℕ → ℕ) → weigh weight v.given ≡ weigh weight v.got + weigh weight (map T.number queued)) × (length queued ≤ 1024) };
+    ghost fact = { λ v queued. ((weight : T → ℕ) → weigh weight v.given ≡ weigh weight v.got + weigh weight queued) × (length queued ≤ 1024) };
 }

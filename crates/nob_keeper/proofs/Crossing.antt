@@ -67,7 +67,7 @@ copy_send = search sendable depth 30
 message_fields_send : IsSend (Struct (shape Message.the_type))
 message_fields_send =
     struct_send (shape Message.the_type)
-    (search (crosses, sendable) depth 30, (search (crosses, sendable) depth 30, (search (bytes.the_send, crosses, values.crosses, sendable) depth 60 fits 20000, (lists.the_send RefCopy.the_row copy_send, tt))))
+    (search (crosses, sendable) depth 30, (search sendable depth 30, (search (crosses, sendable) depth 30, (search (bytes.the_send, crosses, values.crosses, sendable) depth 60 fits 20000, (lists.the_send RefCopy.the_row copy_send, tt)))))
 
 message_send : IsSend Message.the_row
 message_send = (let T = Message.the_type in recorded_send (Struct (shape T)) T.D T.to T.to_one message_fields_send)

@@ -54,10 +54,11 @@ asks_to rep [] = refl
 asks_to rep (gift ∷ more) = to_owner rep (gift.to == rep.owner) gift (filter (λ (one : Gift). one.to == rep.owner) more) refl ∙ ap (cons_option (gift_asks rep gift)) (asks_to rep more)
 
 -- by one deed more that is asked which its gifts ask
-pub asks_more : (s n : ℕ) (rep : WireRep) (deed : Deed) (D : List Deed) → asks_of s n rep (deed ∷ D) ≡ asks_of s n rep D ++ gifts_ask rep (gifts s n deed D (work s n D))
-asks_more s n rep deed D =
+pub asks_more : (s n : ℕ) (rep : WireRep) (deed : Deed) (D : List Deed) → number rep.owner (deed ∷ D) ≡ number rep.owner D → asks_of s n rep (deed ∷ D) ≡ asks_of s n rep D ++ gifts_ask rep (gifts s n deed D (work s n D))
+asks_more s n rep deed D same =
     let more : List Gift = gifts s n deed D (work s n D) in
-    ap (asks_among rep.index) (gifts_sent_now rep.owner D more (sent (history_of s n D)))
+    ap (λ (k : ℕ). asks_among rep.index (items_sent_in rep.owner k (sent (history_of s n (deed ∷ D))))) same
+    ∙ ap (asks_among rep.index) (gifts_sent_now rep.owner D more (sent (history_of s n D)))
     ∙ filter_map-append (ask_in rep.index) (items_sent_in rep.owner (number rep.owner D) (sent (history_of s n D))) (items_to rep.owner more)
     ∙ ap (λ bs. asks_of s n rep D ++ bs) (asks_to rep more)
 

@@ -1,5 +1,5 @@
 -- What was sent and acted on, session by session, by one entry more: only what is sent or acted on in the present session grows.
-use Rattle.std.proofs.Common.{◌≡◌, ℕ, ◌+◌, ◌≤◌, ◌&&◌, Bool, true, false, cond, List, [], ◌∷◌, ◌++◌, length, map, Ok, refl, sym, ap, subst, ◌∙◌, inl, inr, arith}
+use Rattle.std.proofs.Common.{◌≡◌, ℕ, ◌+◌, ◌≤◌, ◌&&◌, Bool, true, false, cond, List, [], ◌∷◌, ◌++◌, length, map, Ok, refl, sym, ap, subst, ◌∙◌, ◌⊎◌, inl, inr, arith}
 use Rattle.std.specs.Prelude.{◌==◌}
 use Rattle.std.proofs.lemmas.Bool.{eq-eqb, eqb-true}
 use Rattle.std.proofs.lemmas.List.{append-nil}
@@ -46,6 +46,32 @@ sent_in_same s n p k deed D other =
 pub sent_now_more : (s n p : ℕ) (deed : Deed) (D : List Deed) → items_sent_in p (number p D) (sent (history_of s n (deed ∷ D))) ≡ items_sent_in p (number p D) (sent (history_of s n D)) ++ items_to p (gifts s n deed D (work s n D))
 sent_now_more s n p deed D = gifts_sent_now p D (gifts s n deed D (work s n D)) (sent (history_of s n D))
 
+-- a deed leaves the number of each session, or it gives nothing: this is where an event that opens one is a case
+number_or_none : (s n p : ℕ) (deed : Deed) (D : List Deed) → (number p (deed ∷ D) ≡ number p D) ⊎ (gifts s n deed D (work s n D) ≡ [])
+number_or_none s n p deed D = inl refl
+
+pub given_elsewhere : (s n p k : ℕ) (deed : Deed) (D : List Deed) → (number p (deed ∷ D) == k) ≡ false → ((number p D == k) ≡ false) ⊎ (gifts s n deed D (work s n D) ≡ [])
+given_elsewhere s n p k deed D other = by (number_or_none s n p deed D)
+  where
+    by : (number p (deed ∷ D) ≡ number p D) ⊎ (gifts s n deed D (work s n D) ≡ []) → ((number p D == k) ≡ false) ⊎ (gifts s n deed D (work s n D) ≡ [])
+    by (inl same) = inl (ap (λ (m : ℕ). m == k) (sym same) ∙ other)
+    by (inr none) = inr none
+
+either_none : (b : Bool) (more : List Item) → more ≡ [] → cond b more [] ≡ []
+either_none true more none = none
+either_none false more none = refl
+
+-- nothing is sent in another session than the one in which a space is then
+pub sent_stays : (s n p k : ℕ) (deed : Deed) (D : List Deed) → (number p (deed ∷ D) == k) ≡ false → items_sent_in p k (sent (history_of s n (deed ∷ D))) ≡ items_sent_in p k (sent (history_of s n D))
+sent_stays s n p k deed D other = by (given_elsewhere s n p k deed D other)
+  where
+    by : ((number p D == k) ≡ false) ⊎ (gifts s n deed D (work s n D) ≡ []) → items_sent_in p k (sent (history_of s n (deed ∷ D))) ≡ items_sent_in p k (sent (history_of s n D))
+    by (inl elsewhere) = sent_in_same s n p k deed D elsewhere
+    by (inr none) =
+        sent_in_more s n p k deed D
+        ∙ ap (λ more. items_sent_in p k (sent (history_of s n D)) ++ more) (either_none (number p D == k) _ (ap (items_to p) none))
+        ∙ append-nil (items_sent_in p k (sent (history_of s n D)))
+
 -- what was sent in a session before stands in front of what is sent in it
 pub sent_grows : (n a b k : ℕ) (entry : Entry) (J : List Entry) → (more : List Item) × (sent_in n a b k (entry ∷ J) ≡ sent_in n a b k J ++ more)
 sent_grows n a b k entry J =
@@ -62,7 +88,7 @@ pub sent_other : (n a b k : ℕ) (entry : Entry) (J : List Entry) → (number_at
 sent_other n a b k entry J other =
     elim (grows a entry J) [
       | inl same ↦ ap (λ D. items_sent_in b k (sent (history_of a n D))) same
-      | inr more ↦ ap (λ D. items_sent_in b k (sent (history_of a n D))) more.3 ∙ sent_in_same a n b k more.0 (deeds_at a J) (ap (λ D. number b D == k) (sym more.3) ∙ other)
+      | inr more ↦ ap (λ D. items_sent_in b k (sent (history_of a n D))) more.3 ∙ sent_stays a n b k more.0 (deeds_at a J) (ap (λ D. number b D == k) (sym more.3) ∙ other)
     ]
 
 -- ---- what was handed on the end
@@ -100,21 +126,25 @@ calls_left s n p k deed D other =
     own_left k p deed (with_sends given before) (ap (λ (m : ℕ). m == k) (sends_number given before ∙ number_is s n p D) ∙ other)
     ∙ sends_left k given before (ap (λ (m : ℕ). m == k) (number_is s n p D) ∙ other)
 
+-- so in another session than the one in which a space is then nothing is handed on
+calls_stay : (s n p k : ℕ) (deed : Deed) (D : List Deed) → (number p (deed ∷ D) == k) ≡ false → up_to k (calls_at p (history_of s n (deed ∷ D))) ≡ up_to k (calls_at p (history_of s n D))
+calls_stay s n p k deed D other = calls_left s n p k deed D other
+
 -- what was handed up to the end of a session are the payloads of what was sent in it
 pub handed_in : (s n p k : ℕ) (D : List Deed) → handed (up_to k (calls_at p (history_of s n D))) ≡ map payload_of (items_sent_in p k (sent (history_of s n D)))
 handed_in s n p k [] = refl
-handed_in s n p k (deed ∷ D) = by (number p D == k) refl (handed_in s n p k D)
+handed_in s n p k (deed ∷ D) = by (number p (deed ∷ D) == k) refl (handed_in s n p k D)
   where
-    by : (b : Bool) → (number p D == k) ≡ b → handed (up_to k (calls_at p (history_of s n D))) ≡ map payload_of (items_sent_in p k (sent (history_of s n D))) → handed (up_to k (calls_at p (history_of s n (deed ∷ D)))) ≡ map payload_of (items_sent_in p k (sent (history_of s n (deed ∷ D))))
+    by : (b : Bool) → (number p (deed ∷ D) == k) ≡ b → handed (up_to k (calls_at p (history_of s n D))) ≡ map payload_of (items_sent_in p k (sent (history_of s n D))) → handed (up_to k (calls_at p (history_of s n (deed ∷ D)))) ≡ map payload_of (items_sent_in p k (sent (history_of s n (deed ∷ D))))
     by true is before =
-        let here : number p D ≡ k = eqb-true (number p D) k is in
+        let here : number p (deed ∷ D) ≡ k = eqb-true (number p (deed ∷ D)) k is in
         ap handed (up_to_present k (calls_at p (history_of s n (deed ∷ D))) (number_is s n p (deed ∷ D) ∙ here))
         ∙ payloads_handed s n p (deed ∷ D)
         ∙ ap (λ (m : ℕ). map payload_of (items_sent_in p m (sent (history_of s n (deed ∷ D))))) here
     by false other before =
-        ap handed (calls_left s n p k deed D other)
+        ap handed (calls_stay s n p k deed D other)
         ∙ before
-        ∙ ap (map payload_of) (sym (sent_in_same s n p k deed D other))
+        ∙ ap (map payload_of) (sym (sent_stays s n p k deed D other))
 
 -- ---- what is acted on
 
@@ -133,6 +163,16 @@ acted_is p (_ ∷ D) = acted_is p D
 
 pub acted_from_is : (a b : ℕ) (J : List Entry) → acted_from a b J ≡ acted_in a b (number_at b a J) J
 acted_from_is a b J = acted_is a (deeds_at b J)
+
+-- nothing is acted on in another session than the one in which a space is then
+pub acted_stays : (p k : ℕ) (deed : Deed) (D : List Deed) → (number p (deed ∷ D) == k) ≡ false → acted_during p k (deed ∷ D) ≡ acted_during p k D
+acted_stays p k (did.Act q j) D other = by (q == p) (number p D == k) other
+  where
+    by : (own now : Bool) → now ≡ false → cond (own && now) (acted_during p k D ++ (j, item_at p j D) ∷ []) (acted_during p k D) ≡ acted_during p k D
+    by own true is = cc
+    by true false is = refl
+    by false false is = refl
+acted_stays p k deed D other = refl
 
 -- ---- spaces that are in one session
 

@@ -138,13 +138,13 @@ module _ (p k : ℕ) where
   abbrev pub calls_now : (s n : ℕ) → List Deed → ℕ
   calls_now s n D = count_of (makes_call k) (items_sent_in p (number p D) (sent (history_of s n D)))
 
-  now_more : (s n : ℕ) (deed : Deed) (D : List Deed) → calls_now s n (deed ∷ D) ≤ calls_now s n D + calls_so deed
+  now_more : (s n : ℕ) (deed : Deed) (D : List Deed) → number p (deed ∷ D) ≡ number p D → calls_now s n (deed ∷ D) ≤ calls_now s n D + calls_so deed
   unfolding gifts
-  now_more s n deed D =
+  now_more s n deed D same =
       let W : Outstanding = work s n D in
       let given = count_given (makes_call k) p (λ (gift : Gift). is_peer s n gift.to) (gifts_of s n deed D W) in
       let fewer = deed_calls s n deed D W in
-      let whole = ap (count_of (makes_call k)) (sent_now_more s n p deed D) ∙ count_append (makes_call k) (items_sent_in p (number p D) (sent (history_of s n D))) (items_to p (gifts s n deed D W)) in
+      let whole = ap (λ (m : ℕ). count_of (makes_call k) (items_sent_in p m (sent (history_of s n (deed ∷ D))))) same ∙ ap (count_of (makes_call k)) (sent_now_more s n p deed D) ∙ count_append (makes_call k) (items_sent_in p (number p D) (sent (history_of s n D))) (items_to p (gifts s n deed D W)) in
       omega (arith, given, fewer, whole)
 
   -- ---- each once
@@ -423,7 +423,7 @@ module _ (p k : ℕ) where
   pub all_answered : (s n : ℕ) (limits : Limits) (D : List Deed) → AreRightDeeds s n limits D → 1 ≤ calls_now s n D → IsAnswered s n D
   all_answered s n limits [] right some = absurd (omega (arith, some))
   all_answered s n limits (deed ∷ D) right some =
-      let more = now_more s n deed D in
+      let more = now_more s n deed D refl in
       elim (nat_le 1 (calls_now s n D)) as (λ b. nat_le 1 (calls_now s n D) ≡ b → IsAnswered s n (deed ∷ D)) [
         | true ↦ λ before. still_answered s n limits deed D right (all_answered s n limits D right.1 (leb-true 1 (calls_now s n D) before))
         | false ↦ λ none. (let few = leb-false 1 (calls_now s n D) none in new_answered s n deed D (omega (arith, some, more, few)))

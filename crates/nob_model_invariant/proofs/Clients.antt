@@ -13,7 +13,7 @@ use Rattle.nob_item.specs.declared.item.Item.TheVariants as items
 use Rattle.nob_model_types.specs.declared.deed.Deed.{Deed}
 use Rattle.nob_model_types.specs.declared.deed.Deed.TheVariants as did
 use Rattle.nob_model_types.specs.declared.turns.Turns.{Turns}
-use Rattle.nob_model_types.specs.Sessions.{is_peer, item_at, acted}
+use Rattle.nob_model_types.specs.Sessions.{is_peer, item_at, acted, number}
 use Rattle.nob_model_types.specs.Turns.{turns, turns_after, is_pending, is_granted, is_standing, wants_dirty, with_dirty, with_answer, with_clean, carries, names}
 use Rattle.nob_model_work.specs.Work.{work}
 use Rattle.nob_model_work.specs.Gifts.{gifts, gifts_of_act}
@@ -175,14 +175,14 @@ item_turned s n p k rep (items.Clean index) D is pending shape are = other_item 
 -- ---- a deed
 
 -- what a deed asks and answers, as it stands in the list
-turned_by : (s n : ℕ) (rep : WireRep) (deed : Deed) (D : List Deed) (answers : List Bool) → answers_of rep (deed ∷ D) ≡ answers → AreBy (turns s n rep (deed ∷ D)) (asks_of s n rep D ++ gifts_ask rep (gifts s n deed D (work s n D))) answers → IsTurned s n rep (deed ∷ D)
-turned_by s n rep deed D answers answered are =
-    let own = subst (λ asks. AreBy (turns s n rep (deed ∷ D)) asks (answers_of rep (deed ∷ D))) (sym (asks_more s n rep deed D)) (subst (λ bs. AreBy (turns s n rep (deed ∷ D)) (asks_of s n rep D ++ gifts_ask rep (gifts s n deed D (work s n D))) bs) (sym answered) are) in
+turned_by : (s n : ℕ) (rep : WireRep) (deed : Deed) (D : List Deed) (answers : List Bool) → number rep.owner (deed ∷ D) ≡ number rep.owner D → answers_of rep (deed ∷ D) ≡ answers → AreBy (turns s n rep (deed ∷ D)) (asks_of s n rep D ++ gifts_ask rep (gifts s n deed D (work s n D))) answers → IsTurned s n rep (deed ∷ D)
+turned_by s n rep deed D answers stays answered are =
+    let own = subst (λ asks. AreBy (turns s n rep (deed ∷ D)) asks (answers_of rep (deed ∷ D))) (sym (asks_more s n rep deed D stays)) (subst (λ bs. AreBy (turns s n rep (deed ∷ D)) (asks_of s n rep D ++ gifts_ask rep (gifts s n deed D (work s n D))) bs) (sym answered) are) in
     record { turns_are = own.0; taken = own.1 }
 
-other_turned : (s n : ℕ) (rep : WireRep) (deed : Deed) (D : List Deed) → may_ask deed D ≡ false → answers_of rep (deed ∷ D) ≡ answers_of rep D → turns s n rep (deed ∷ D) ≡ turns s n rep D → IsTurned s n rep D → IsTurned s n rep (deed ∷ D)
-other_turned s n rep deed D none answered same turned =
-    turned_by s n rep deed D (answers_of rep D) answered
+other_turned : (s n : ℕ) (rep : WireRep) (deed : Deed) (D : List Deed) → number rep.owner (deed ∷ D) ≡ number rep.owner D → may_ask deed D ≡ false → answers_of rep (deed ∷ D) ≡ answers_of rep D → turns s n rep (deed ∷ D) ≡ turns s n rep D → IsTurned s n rep D → IsTurned s n rep (deed ∷ D)
+other_turned s n rep deed D stays none answered same turned =
+    turned_by s n rep deed D (answers_of rep D) stays answered
     (subst (λ more. AreBy (turns s n rep (deed ∷ D)) (asks_of s n rep D ++ more) (answers_of rep D)) (sym (asks_nothing s n rep deed D none))
     (subst (λ bs. AreBy (turns s n rep (deed ∷ D)) bs (answers_of rep D)) (sym (append-nil (asks_of s n rep D))) (same ∙ turned.turns_are, turned.taken)))
 
@@ -191,14 +191,14 @@ act_turned s n limits rep p k D right turned =
     let known = item_acted s n limits p k D (in_turn s n limits D right.1) right.0 in
     let took = took_turns s n limits (did.Act p k ∷ D) right in
     let own : ItemTurned s n p k rep known.0 D = item_turned s n p k rep known.0 D known.1 (subst (λ found. AnswersPending s n p found D) known.1 took.0) (shapes s n rep D took.1) (turned.turns_are, turned.taken) in
-    turned_by s n rep (did.Act p k) D _ (answers_more p k rep known.0 D known.1)
+    turned_by s n rep (did.Act p k) D _ refl (answers_more p k rep known.0 D known.1)
     (subst (λ found. AreBy (turns_after s n p rep found D (turns s n rep D)) (asks_of s n rep D ++ gifts_ask rep (gifts s n (did.Act p k) D (work s n D))) (answers_of rep D ++ cond (p == rep.owner) (cons_option (answer_in rep.index known.0) []) [])) (sym known.1) own)
 
 clean_turned : (s n : ℕ) (rep other : WireRep) (D : List Deed) → is_granted (turns s n other D) ≡ true → IsTurned s n rep D → IsTurned s n rep (did.Clean other ∷ D)
 clean_turned s n rep other D granted turned =
     let asks : (turns s n other D).asks ≡ true = (granted_answered (turns s n other D) granted).0 in
     let asked = clean_asked s n rep other D asks (λ same. asks_peer s n other D asks) ∙ ap (λ (b : Bool). cond b (false ∷ []) []) (same_flip other rep) in
-    turned_by s n rep (did.Clean other) D (answers_of rep D) refl
+    turned_by s n rep (did.Clean other) D (answers_of rep D) refl refl
     (subst (λ more. AreBy (turns s n rep (did.Clean other ∷ D)) (asks_of s n rep D ++ more) (answers_of rep D)) (sym asked)
     (clean_step (is_same rep other) (turns s n rep D) (asks_of s n rep D) (answers_of rep D) (λ same. subst (λ (r : WireRep). is_granted (turns s n r D) ≡ true) (sym (same_ref rep other same)) granted) (turned.turns_are, turned.taken)))
 
@@ -207,4 +207,4 @@ pub are_turned : (s n : ℕ) (limits : Limits) (rep : WireRep) (D : List Deed) �
 are_turned s n limits rep [] right = record { turns_are = refl; taken = none_asked }
 are_turned s n limits rep (did.Act p k ∷ D) right = act_turned s n limits rep p k D right (are_turned s n limits rep D right.1)
 are_turned s n limits rep (did.Clean other ∷ D) right = clean_turned s n rep other D (took_turns s n limits (did.Clean other ∷ D) right).0 (are_turned s n limits rep D right.1)
-are_turned s n limits rep (deed ∷ D) right = other_turned s n rep deed D refl refl refl (are_turned s n limits rep D right.1)
+are_turned s n limits rep (deed ∷ D) right = other_turned s n rep deed D refl refl refl refl (are_turned s n limits rep D right.1)

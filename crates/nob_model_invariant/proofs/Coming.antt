@@ -1,5 +1,5 @@
 -- Messages that wait came in the present session with their sender: a close of that takes them away.
-use Rattle.std.proofs.Common.{◌≡◌, ℕ, Bool, true, false, List, [], ◌∷◌, ◌++◌, map, find, Option, Some, None, if◌then◌else◌, refl}
+use Rattle.std.proofs.Common.{◌≡◌, ℕ, Bool, true, false, List, [], ◌∷◌, ◌++◌, map, find, Option, Some, None, if◌then◌else◌, refl, sym, ◌∙◌}
 use Rattle.std.specs.List.{AllByRecursion}
 use Rattle.nob_item.specs.declared.item.Item.{Item}
 use Rattle.nob_item.specs.declared.item.Item.TheVariants as items
@@ -77,8 +77,16 @@ deed_present s n (did.Settle p k) D W all = settle_present s n p k D (find (is_o
 deed_present s n (did.Closing p reason cause) D W all = all_filter (λ (one : Message). one.session ≡ number one.from D) (is_not_from p) W.waiting all
 deed_present s n deed D W all = all
 
+-- in the sessions in which a space still is
+present_same : (D E : List Deed) → ((p : ℕ) → number p E ≡ number p D) → (messages : List Message) → AreOfPresent D messages → AreOfPresent E messages
+present_same D E same [] all = tt
+present_same D E same (m ∷ messages) all = (all.0 ∙ sym (same m.from), present_same D E same messages all.1)
+
 -- whatever waits came in the present session
 pub waiting_present : (s n : ℕ) (D : List Deed) → AreOfPresent D (work s n D).waiting
 unfolding with_loans
 waiting_present s n [] = tt
-waiting_present s n (deed ∷ D) = present_kept s n D (deed ∷ D) (work_after s n deed D (work s n D)).waiting (deed_present s n deed D (work s n D) (waiting_present s n D))
+waiting_present s n (deed ∷ D) =
+    let W : Outstanding = work_after s n deed D (work s n D) in
+    present_same D (deed ∷ D) (λ p. refl) (map (λ m. message_after s n (deed ∷ D) m) W.waiting)
+    (present_kept s n D (deed ∷ D) W.waiting (deed_present s n deed D (work s n D) (waiting_present s n D)))

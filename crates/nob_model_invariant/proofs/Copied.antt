@@ -91,14 +91,21 @@ pub record IsCopyOf (rep : WireRep) (D : List Deed) (copy : Source) : Type 0 whe
   pub of_owner : is_own copy.from rep ≡ true → is_present D copy ≡ true
   pub acted_on : is_present D copy ≡ true → (item : Item) × StandsAt copy.from copy.number item D × (carries rep item ≡ true)
 
-copy_on : (rep : WireRep) (deed : Deed) (D : List Deed) (copy : Source) → IsCopyOf rep D copy → IsCopyOf rep (deed ∷ D) copy
-copy_on rep deed D copy its = record {
-  of_owner = its.of_owner;
-  acted_on = λ present. let found = its.acted_on present in (found.0, stands_on copy.from copy.number found.0 deed D found.1, found.2);
+-- a deed that leaves the number of each session
+abbrev LeavesNumbers : Deed → List Deed → Type 0
+LeavesNumbers deed D = (p : ℕ) → number p (deed ∷ D) ≡ number p D
+
+still_present : (deed : Deed) (D : List Deed) (copy : Source) → LeavesNumbers deed D → is_present (deed ∷ D) copy ≡ is_present D copy
+still_present deed D copy same = ap (λ (k : ℕ). copy.session == k) (same copy.from)
+
+copy_on : (rep : WireRep) (deed : Deed) (D : List Deed) → LeavesNumbers deed D → (copy : Source) → IsCopyOf rep D copy → IsCopyOf rep (deed ∷ D) copy
+copy_on rep deed D same copy its = record {
+  of_owner = λ own. still_present deed D copy same ∙ its.of_owner own;
+  acted_on = λ present. let found = its.acted_on (sym (still_present deed D copy same) ∙ present) in (found.0, stands_on copy.from copy.number found.0 deed D found.1, found.2);
 }
 
-copies_on : (s n : ℕ) (rep : WireRep) (deed : Deed) (D : List Deed) → AllByRecursion (IsCopyOf rep D) (sources s n rep D) → AllByRecursion (IsCopyOf rep (deed ∷ D)) (sources s n rep D)
-copies_on s n rep deed D all = all_weaker (IsCopyOf rep D) (IsCopyOf rep (deed ∷ D)) (copy_on rep deed D) (sources s n rep D) all
+copies_on : (s n : ℕ) (rep : WireRep) (deed : Deed) (D : List Deed) → LeavesNumbers deed D → AllByRecursion (IsCopyOf rep D) (sources s n rep D) → AllByRecursion (IsCopyOf rep (deed ∷ D)) (sources s n rep D)
+copies_on s n rep deed D same all = all_weaker (IsCopyOf rep D) (IsCopyOf rep (deed ∷ D)) (copy_on rep deed D same) (sources s n rep D) all
 
 -- the copy that comes from p in item k
 abbrev pub new_source : (p k : ℕ) → List Deed → Source
@@ -112,15 +119,15 @@ new_copied s n limits rep p k D right (Some item) is all = by (carries rep item)
     by true carried = (record { of_owner = λ own. eq-eqb (number p D) (number p D) refl; acted_on = λ present. (item, stands_new s n limits p k item D right is, carried) }, all)
     by false carried = all
 
-cleaned : {X : Type 0} (P : X → Type 0) (b : Bool) (xs : List X) → AllByRecursion P xs → AllByRecursion P (cond b [] xs)
+pub cleaned : {X : Type 0} (P : X → Type 0) (b : Bool) (xs : List X) → AllByRecursion P xs → AllByRecursion P (cond b [] xs)
 cleaned P true xs all = tt
 cleaned P false xs all = all
 
 pub copies_acted : (s n : ℕ) (limits : Limits) (rep : WireRep) (D : List Deed) → AreRightDeeds s n limits D → AllByRecursion (IsCopyOf rep D) (sources s n rep D)
 copies_acted s n limits rep [] right = tt
-copies_acted s n limits rep (did.Act p k ∷ D) right = new_copied s n limits rep p k D right (item_at p k D) refl (copies_on s n rep (did.Act p k) D (copies_acted s n limits rep D right.1))
-copies_acted s n limits rep (did.Clean other ∷ D) right = cleaned (IsCopyOf rep (did.Clean other ∷ D)) (is_same rep other && (turns s n rep D).asks) (sources s n rep D) (copies_on s n rep (did.Clean other) D (copies_acted s n limits rep D right.1))
-copies_acted s n limits rep (deed ∷ D) right = copies_on s n rep deed D (copies_acted s n limits rep D right.1)
+copies_acted s n limits rep (did.Act p k ∷ D) right = new_copied s n limits rep p k D right (item_at p k D) refl (copies_on s n rep (did.Act p k) D (λ q. refl) (copies_acted s n limits rep D right.1))
+copies_acted s n limits rep (did.Clean other ∷ D) right = cleaned (IsCopyOf rep (did.Clean other ∷ D)) (is_same rep other && (turns s n rep D).asks) (sources s n rep D) (copies_on s n rep (did.Clean other) D (λ q. refl) (copies_acted s n limits rep D right.1))
+copies_acted s n limits rep (deed ∷ D) right = copies_on s n rep deed D (λ q. refl) (copies_acted s n limits rep D right.1)
 
 -- ---- a message that is settled carries nothing that is pending
 
@@ -194,8 +201,8 @@ pub record AreCopied (s n : ℕ) (rep : WireRep) (D : List Deed) : Type 0 where
   pub wait : closed rep.owner D ≡ false → is_pending (turns s n rep D) ≡ true → AllByRecursion (Rests s n D) (sources s n rep D)
 
 -- while a reference is pending its copies rest
-copies_rest : (s n : ℕ) (limits : Limits) (rep : WireRep) (deed : Deed) (D : List Deed) → AreRightDeeds s n limits (deed ∷ D) → closed rep.owner D ≡ false → is_pending (turns s n rep D) ≡ true → AllByRecursion (Rests s n D) (sources s n rep D) → AllByRecursion (Rests s n (deed ∷ D)) (sources s n rep D)
-copies_rest s n limits rep deed D right up pending all =
+copies_rest : (s n : ℕ) (limits : Limits) (rep : WireRep) (deed : Deed) (D : List Deed) → LeavesNumbers deed D → AreRightDeeds s n limits (deed ∷ D) → closed rep.owner D ≡ false → is_pending (turns s n rep D) ≡ true → AllByRecursion (Rests s n D) (sources s n rep D) → AllByRecursion (Rests s n (deed ∷ D)) (sources s n rep D)
+copies_rest s n limits rep deed D same right up pending all =
     all_both (IsCopyOf rep D) (Rests s n D) (Rests s n (deed ∷ D)) one (sources s n rep D) (copies_acted s n limits rep D right.1) all
   where
     on : (copy : Source) → IsCopyOf rep D copy → is_present D copy ≡ true → (rests s n copy.from copy.number (deed ∷ D) ≡ true) ⊎ (deed ≡ did.Settle copy.from copy.number) → Rests s n (deed ∷ D) copy
@@ -206,18 +213,18 @@ copies_rest s n limits rep deed D right up pending all =
     by copy its rest true present =
         on copy its present
         (rests_on s n limits copy.from copy.number deed D right (rests_now (is_waiting copy.from copy.number (work s n D).waiting) (closed copy.from D) (is_present D copy) present rest))
-    by copy its rest false other = or_right (is_waiting copy.from copy.number (work s n (deed ∷ D)).waiting) _ (or_right (closed copy.from (deed ∷ D)) (not (is_present D copy)) (not_from_false (is_present D copy) other))
+    by copy its rest false other = or_right (is_waiting copy.from copy.number (work s n (deed ∷ D)).waiting) _ (or_right (closed copy.from (deed ∷ D)) (not (is_present (deed ∷ D) copy)) (not_from_false (is_present (deed ∷ D) copy) (still_present deed D copy same ∙ other)))
 
     one : (copy : Source) → IsCopyOf rep D copy → Rests s n D copy → Rests s n (deed ∷ D) copy
     one copy its rest = by copy its rest (is_present D copy) refl
 
-other_copied : (s n : ℕ) (limits : Limits) (rep : WireRep) (deed : Deed) (D : List Deed) → AreRightDeeds s n limits (deed ∷ D) → turns s n rep (deed ∷ D) ≡ turns s n rep D → sources s n rep (deed ∷ D) ≡ sources s n rep D → AreCopied s n rep D → AreCopied s n rep (deed ∷ D)
-other_copied s n limits rep deed D right same also before = record {
+other_copied : (s n : ℕ) (limits : Limits) (rep : WireRep) (deed : Deed) (D : List Deed) → LeavesNumbers deed D → AreRightDeeds s n limits (deed ∷ D) → turns s n rep (deed ∷ D) ≡ turns s n rep D → sources s n rep (deed ∷ D) ≡ sources s n rep D → AreCopied s n rep D → AreCopied s n rep (deed ∷ D)
+other_copied s n limits rep deed D leaves right same also before = record {
   none = λ peer up idle. also ∙ before.none peer (open_before rep.owner deed D up) (ap is_standing (sym same) ∙ idle);
   wait = λ up pending.
       let pended : is_pending (turns s n rep D) ≡ true = ap is_pending (sym same) ∙ pending in
       let earlier = open_before rep.owner deed D up in
-      subst (AllByRecursion (Rests s n (deed ∷ D))) (sym also) (copies_rest s n limits rep deed D right earlier pended (before.wait earlier pended));
+      subst (AllByRecursion (Rests s n (deed ∷ D))) (sym also) (copies_rest s n limits rep deed D leaves right earlier pended (before.wait earlier pended));
 }
 
 carried_false : (carried wanted : Bool) → (carried && wanted) ≡ false → wanted ≡ true → carried ≡ false
@@ -228,7 +235,7 @@ new_rests : (s n : ℕ) (rep : WireRep) (p k : ℕ) (D : List Deed) (found : Opt
 new_rests s n rep p k D None is carried = cc
 new_rests s n rep p k D (Some item) is carried = or_left (is_waiting p k (work s n (did.Act p k ∷ D)).waiting) _ (waits_new s n p k item D is (carried_some rep (counted_in item) carried))
 
-more_rest : (P : Source → Type 0) (b : Bool) (copy : Source) (cs : List Source) → (b ≡ true → P copy) → AllByRecursion P cs → AllByRecursion P (cond b (copy ∷ cs) cs)
+pub more_rest : (P : Source → Type 0) (b : Bool) (copy : Source) (cs : List Source) → (b ≡ true → P copy) → AllByRecursion P cs → AllByRecursion P (cond b (copy ∷ cs) cs)
 more_rest P true copy cs its all = (its refl, all)
 more_rest P false copy cs its all = all
 
@@ -245,7 +252,7 @@ act_copied s n limits rep p k D right before = record { none = none; wait = wait
         ap (λ (b : Bool). cond b (new_source p k D ∷ sources s n rep D) (sources s n rep D)) (carried_false (is_carried rep (item_at p k D)) _ was.1 wanted) ∙ before.none peer up was.0
 
     earlier : closed rep.owner D ≡ false → WasPending s n rep (item_at p k D) D → AllByRecursion (Rests s n (did.Act p k ∷ D)) (sources s n rep D)
-    earlier up (inl pending) = copies_rest s n limits rep (did.Act p k) D right up pending (before.wait up pending)
+    earlier up (inl pending) = copies_rest s n limits rep (did.Act p k) D (λ q. refl) right up pending (before.wait up pending)
     earlier up (inr asked) =
         let wanted = (and_parts (is_carried rep (item_at p k D)) _ asked).1 in
         let open_peer = and_parts _ _ wanted in
@@ -270,11 +277,11 @@ clean_copied s n limits rep other D right before = by (is_same rep other) refl
           none = λ peer up idle. ap (λ (b : Bool). cond (b && (turns s n rep D).asks) [] (sources s n rep D)) same ∙ ap (λ (b : Bool). cond b [] (sources s n rep D)) asks;
           wait = λ up pending. absurd (both_ways (is_pending (with_clean (turns s n rep D))) (after_clean (turns s n rep D) (granted same)).1.0 (ap is_pending (sym turned) ∙ pending));
         }
-    by false same = other_copied s n limits rep (did.Clean other) D right (ap (λ (b : Bool). cond b (with_clean (turns s n rep D)) (turns s n rep D)) same) (ap (λ (b : Bool). cond (b && (turns s n rep D).asks) [] (sources s n rep D)) same) before
+    by false same = other_copied s n limits rep (did.Clean other) D (λ q. refl) right (ap (λ (b : Bool). cond b (with_clean (turns s n rep D)) (turns s n rep D)) same) (ap (λ (b : Bool). cond (b && (turns s n rep D).asks) [] (sources s n rep D)) same) before
 
 -- in every list of right deeds
 pub are_copied : (s n : ℕ) (limits : Limits) (rep : WireRep) (D : List Deed) → AreRightDeeds s n limits D → AreCopied s n rep D
 are_copied s n limits rep [] right = record { none = λ peer up idle. refl; wait = λ up pending. tt }
 are_copied s n limits rep (did.Act p k ∷ D) right = act_copied s n limits rep p k D right (are_copied s n limits rep D right.1)
 are_copied s n limits rep (did.Clean other ∷ D) right = clean_copied s n limits rep other D right (are_copied s n limits rep D right.1)
-are_copied s n limits rep (deed ∷ D) right = other_copied s n limits rep deed D right refl refl (are_copied s n limits rep D right.1)
+are_copied s n limits rep (deed ∷ D) right = other_copied s n limits rep deed D (λ q. refl) right refl refl (are_copied s n limits rep D right.1)

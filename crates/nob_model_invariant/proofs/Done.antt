@@ -54,7 +54,7 @@ settles_before s n p k q j D m found is =
 
 settles_still : (s n : ℕ) (limits : Limits) (p k : ℕ) (deed : Deed) (D : List Deed) → AreRightDeeds s n limits (deed ∷ D) → is_in k (settles_of s n p D) ≡ true → is_in k (settles_of s n p (deed ∷ D)) ≡ true
 settles_still s n limits p k (did.Settle q j) D right is = let told = settled_message s n limits q j D right in settles_before s n p k q j D told.0 told.4 is
-settles_still s n limits p k deed D right is = ap (is_in k) (settles_same s n p deed D refl) ∙ is
+settles_still s n limits p k deed D right is = ap (is_in k) (settles_same s n p deed D refl refl) ∙ is
 
 one_in : (k : ℕ) (b : Bool) → b ≡ true → is_in k (cond b (k ∷ []) []) ≡ true
 one_in k true is = or_left (k == k) false (eq-eqb k k refl)

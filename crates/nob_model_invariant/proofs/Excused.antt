@@ -1,7 +1,7 @@
 -- Where an owner refuses a reference each copy of it that came is excused, so no reference is lost without a cause.
 use Rattle.std.proofs.Common.{◌≡◌, ℕ, zero, suc, ◌+◌, ◌-◌, ◌≤◌, ◌&&◌, ◌||◌, not, Bool, true, false, cond, List, [], ◌∷◌, ◌++◌, length, find, Option, Some, None, refl, sym, ap, subst, ◌∙◌, arith, ◌⊎◌, inl, inr}
 use Rattle.std.specs.Prelude.{◌==◌}
-use Rattle.std.specs.List.{AllByRecursion, slice_get, cons_option}
+use Rattle.std.specs.List.{AllByRecursion, list_any, slice_get, cons_option}
 use Rattle.std.proofs.lemmas.Bool.{eqb-true, eq-eqb, ne_eqb, and_parts, and_from, or_left, or_right, or_parts, or_from, not-false, not-true, not_from_false, both_ways, false_from_ne_true}
 use Rattle.std.proofs.lemmas.List.Elements.{filter_map-append}
 use Rattle.std.proofs.lemmas.List.Folds.{list_any-append}
@@ -26,36 +26,39 @@ use Rattle.nob_model_work.specs.Work.{work}
 use Rattle.nob_model_history.specs.declared.transit.SentItem.{SentItem}
 use Rattle.nob_model_history.specs.Histories.{history_of}
 use Rattle.nob_model_history.specs.Premises.{TookTurns, AnswersPending}
-use Rattle.nob_model_history.specs.Transit.{is_sent_to, is_some_of, is_settled, is_of_present, is_pinned, owner_session, pins, sent}
+use Rattle.nob_model_history.specs.Transit.{is_some_of, is_settled, is_of_present, is_pinned, owner_session, pins, sent}
 use Rattle.nob_model_history.proofs.Sending.{sent_more}
 use Rattle.nob_model_history.proofs.Turning.{same_ref, named_ref, shapes, after_clean}
 use Rattle.nob_model.specs.Lists.{AreRightDeeds}
 use Rattle.nob_model.proofs.Premises.{took_turns}
-use Rattle.nob_model.proofs.Waiting.{act_open, all_weaker}
-use Rattle.nob_model_journal.specs.Fronts.{with_numbers}
-use Rattle.nob_model_journal.specs.Journals.{deeds_at, history_at, closed_at, number_at, are_in_one, both_open, sent_in, sent_now, sent_to, acted_from}
+use Rattle.nob_model.proofs.Carrying.{all_found}
+use Rattle.nob_model.proofs.Waiting.{act_open}
+use Rattle.nob_model_journal.specs.Fronts.{with_numbers, ActsInOrder}
+use Rattle.nob_model_journal.specs.Journals.{deeds_at, history_at, closed_at, number_at, are_in_one, both_open, sent_in, sent_now, sent_to, acted_in, acted_from}
 use Rattle.nob_model_journal.specs.Losses.{is_carried, is_loss, is_source, was_with_owner, is_open_source, is_excuse, sources, LosesExcused}
 use Rattle.nob_model_journal.specs.declared.losses.Source.{Source}
 use Rattle.nob_model_journal.specs.Safety.{is_with_owner}
 use Rattle.nob_model_journal.specs.Runs.{WorldRun}
-use Rattle.nob_model_invariant.specs.Asking.{answer_in, answers_among, items_among, last_word, word_of, turns_by, has_no, asked, heard, gave}
+use Rattle.nob_model_invariant.specs.Asking.{answer_in, answers_among, items_among, last_word, word_of, turns_by, has_no, asked, heard, gave_to}
 use Rattle.nob_model_invariant.specs.Settles.{settle_in, settles_among, is_in}
 use Rattle.nob_model_invariant.specs.Typed.{AreOfTypes}
 use Rattle.nob_model_invariant.proofs.Bundles.{settled_in}
-use Rattle.nob_model_invariant.proofs.OneSession.{numbers_alike, sent_alike, number_kept}
+use Rattle.nob_model_invariant.proofs.BySession.{acted_from_is}
+use Rattle.nob_model_invariant.proofs.EachSession.{GoesOn, goes_on}
+use Rattle.nob_model_invariant.proofs.Numbers.{IsCome, owners_reached, deed_come, copies_come}
 use Rattle.nob_model_invariant.proofs.Entries.{grows, grows_own, right_deeds_at}
 use Rattle.nob_model_holdings.proofs.Holdings.{pins_stand}
-use Rattle.nob_model_invariant.proofs.Listings.{items_begin, answers_begin, listings}
+use Rattle.nob_model_invariant.proofs.Listings.{split_in, items_begin, answers_begin, listings}
 use Rattle.nob_model_holdings.proofs.Lists.{all_both, place_in_whole, some_same}
 use Rattle.nob_model_invariant.proofs.Numbered.{numbered_at}
-use Rattle.nob_model_invariant.proofs.Order.{acts_on_next, all_fit, in_order_now}
+use Rattle.nob_model_invariant.proofs.Order.{acts_on_next, all_fit, in_order, in_order_now}
 use Rattle.nob_model_invariant.proofs.SafetyPoints.{clients, owners, holdings, living, settlements}
 use Rattle.nob_model_invariant.specs.Copies.{is_waiting}
-use Rattle.nob_model_invariant.specs.LossInvariant.{has_left}
+use Rattle.nob_model_invariant.specs.LossInvariant.{IsReached, has_left}
 use Rattle.nob_model_invariant.specs.LossLaws.{LossesLaw}
 use Rattle.nob_model_invariant.proofs.Sent.{IsSentAs, has_it, sent_as}
 use Rattle.nob_model_invariant.proofs.Copied.{IsCopyOf, Rests, new_source, are_copied, copies_acted}
-use Rattle.nob_model_invariant.proofs.Denied.{IsSettledTo, carried_has, carried_some, denied_settled}
+use Rattle.nob_model_invariant.proofs.Denied.{IsSettledIn, carried_has, carried_some, denied_in}
 use Rattle.nob_model_invariant.proofs.Resting.{or_false}
 use Rattle.nob_model_invariant.proofs.Standing.{was_refused}
 
@@ -87,17 +90,13 @@ heard_no : (answers : List Bool) → (is_no said.Pending ≡ true) ⊎ (has_no a
 heard_no answers (inl refuses) = cc
 heard_no answers (inr refuses) = refuses
 
--- what the owner denied in the client's session it denied in its own
-denied_alike : (n o b x : ℕ) (J : List Entry) → has_no (answers_among x (sent_to n o b J)) ≡ true → has_no (gave n o b x J) ≡ true
-denied_alike n o b x J refuses = ap (λ more. has_no (answers_among x more)) (sent_alike n o b J) ∙ refuses
-
--- where a client is refused, the owner denied it
-refused_denied : (n : ℕ) (limits : ℕ → Limits) (J : List Entry) → WorldRun n limits J → AreOfTypes J → (b : ℕ) (rep : WireRep) → is_refused (turns b n rep (deeds_at b J)) ≡ true → has_no (gave n rep.owner b rep.index J) ≡ true
+-- where a client is refused, the owner denied it in the client's session
+refused_denied : (n : ℕ) (limits : ℕ → Limits) (J : List Entry) → WorldRun n limits J → AreOfTypes J → (b : ℕ) (rep : WireRep) → is_refused (turns b n rep (deeds_at b J)) ≡ true → has_no (gave_to n rep.owner b rep.index J) ≡ true
 refused_denied n limits J run typed b rep refused =
     let by : is_refused (turns_by (asked n b rep J) (heard b rep J)) ≡ true = ap is_refused (sym ((clients n limits J run).turns_are b rep)) ∙ refused in
     let refuses : has_no (heard b rep J) ≡ true = heard_no (heard b rep J) (no_last said.Pending (heard b rep J) (and_parts _ _ by).1) in
     let begins = answers_begin rep.index (items_among (acted_from rep.owner b J)) (sent_to n rep.owner b J) (items_begin n rep.owner b J (in_order_now n limits J run typed rep.owner b)) in
-    denied_alike n rep.owner b rep.index J (ap has_no (sym begins.1) ∙ list_any-append not (heard b rep J) begins.0 ∙ or_left (has_no (heard b rep J)) (has_no begins.0) refuses)
+    ap has_no (sym begins.1) ∙ list_any-append not (heard b rep J) begins.0 ∙ or_left (has_no (heard b rep J)) (has_no begins.0) refuses
 
 -- ---- a copy that wasn't settled
 
@@ -109,6 +108,13 @@ not_settled n a b k J order one none =
     let split : settles_among (items_among (acted_from b a J)) ++ settles_among begins.0 ≡ settles_among (sent_now n b a J) = sym (filter_map-append settle_in (items_among (acted_from b a J)) begins.0) ∙ ap settles_among begins.1 ∙ ap (λ (m : ℕ). settles_among (sent_in n b a m J)) one in
     both_ways (is_in k (settles_among (sent_now n b a J))) none
     (ap (is_in k) (sym split) ∙ list_any-append (λ j. j == k) (settles_among (items_among (acted_from b a J))) (settles_among begins.0) ∙ or_left _ _ (settled_in b k (deeds_at a J) settled)))
+
+-- what was settled at a in a session is among what b sent it in that
+settles_sent : (n a b session k : ℕ) (J : List Entry) → ActsInOrder n b a session J → is_in k (settles_among (items_among (acted_in b a session J))) ≡ true → is_in k (settles_among (sent_in n b a session J)) ≡ true
+settles_sent n a b session k J order settled =
+    let ks : List ℕ = settles_among (items_among (acted_in b a session J)) in
+    let split : ks ++ settles_among (items_among order.0) ≡ settles_among (sent_in n b a session J) = sym (filter_map-append settle_in (items_among (acted_in b a session J)) (items_among order.0)) ∙ ap settles_among (split_in n b a session J order) in
+    ap (is_in k) (sym split) ∙ list_any-append (λ j. j == k) ks (settles_among (items_among order.0)) ∙ or_left _ _ settled
 
 other_granted : (own granted : Bool) → own ≡ false → (own || granted) ≡ true → granted ≡ true
 other_granted true granted none is = absurd (both_ways true none refl)
@@ -141,7 +147,7 @@ open_source n b rep J copy is =
     }
 
 -- a copy of what was denied that came in the session in which b is and wasn't settled is excused
-unsettled_excused : (n b : ℕ) (limits : ℕ → Limits) (J : List Entry) (rep : WireRep) (copy : Source) (item : Item) → WorldRun n limits J → AreOfTypes J → has_no (gave n rep.owner b rep.index J) ≡ true → slice_get (with_numbers 1 (sent_to n copy.from b J)) (copy.number - 1) ≡ Some (copy.number, Some item) → carries rep item ≡ true → is_in copy.number (settles_among (sent_now n b copy.from J)) ≡ false → is_excuse n b rep J copy ≡ true
+unsettled_excused : (n b : ℕ) (limits : ℕ → Limits) (J : List Entry) (rep : WireRep) (copy : Source) (item : Item) → WorldRun n limits J → AreOfTypes J → has_no (gave_to n rep.owner b rep.index J) ≡ true → slice_get (with_numbers 1 (sent_to n copy.from b J)) (copy.number - 1) ≡ Some (copy.number, Some item) → carries rep item ≡ true → is_in copy.number (settles_among (sent_now n b copy.from J)) ≡ false → is_excuse n b rep J copy ≡ true
 unsettled_excused n b limits J rep copy item run typed refuses there carried none = and_from _ _ (not_from_false _ not_own) (not_from_false _ not_open)
   where
     a : ℕ
@@ -162,16 +168,13 @@ unsettled_excused n b limits J rep copy item run typed refuses there carried non
     carries_it : carries rep its.one.item ≡ true
     carries_it = ap (λ (i : Item). carries rep i) its.same ∙ carried
 
-    sent_now_to : number_at a b J ≡ session → is_sent_to b (number_at a b J) its.one ≡ true
-    sent_now_to one = and_from (its.one.to == b) (its.one.session == number_at a b J) (eq-eqb its.one.to b its.to) (eq-eqb its.one.session (number_at a b J) (its.of_session ∙ sym one))
-
     at_owner : rep.owner ≡ a → ⊥
     at_owner same =
-        let one : number_at a b J ≡ session = numbers_alike a b J in
-        let denied : has_no (gave n a b rep.index J) ≡ true = subst (λ (o : ℕ). has_no (gave n o b rep.index J) ≡ true) same refuses in
-        let settled : IsSettledTo a b rep.index (deeds_at a J) its.one = has_it n a b session k item J its (IsSettledTo a b rep.index (deeds_at a J)) (denied_settled a n (limits a) b rep.index (deeds_at a J) (right_deeds_at n limits J run a) denied) in
+        let denied : has_no (gave_to n a b rep.index J) ≡ true = subst (λ (o : ℕ). has_no (gave_to n o b rep.index J) ≡ true) same refuses in
+        let settled : IsSettledIn a b rep.index session (deeds_at a J) its.one = has_it n a b session k item J its (IsSettledIn a b rep.index session (deeds_at a J)) (denied_in a n (limits a) b rep.index session (deeds_at a J) (right_deeds_at n limits J run a) denied) in
         let own : carries (record { owner = a; index = rep.index }) its.one.item ≡ true = subst (λ (o : ℕ). carries (record { owner = o; index = rep.index }) its.one.item ≡ true) same carries_it in
-        both_ways (is_settled b k (deeds_at a J)) (unsettled one) (ap (λ (j : ℕ). is_settled b j (deeds_at a J)) (sym its.number) ∙ settled (sent_now_to one) own)
+        let there : is_in k (settles_among (items_among (acted_in b a session J))) ≡ true = ap (λ (j : ℕ). is_in j (settles_among (items_among (acted_in b a session J)))) (sym its.number) ∙ settled (and_from (its.one.to == b) (its.one.session == session) (eq-eqb its.one.to b its.to) (eq-eqb its.one.session session its.of_session)) own in
+        both_ways (is_in k (settles_among (sent_now n b a J))) none (settles_sent n a b session k J (in_order n limits J run typed b a session) there)
 
     not_own : is_own a rep ≡ false
     not_own = false_from_ne_true (is_own a rep) (λ own. at_owner (eqb-true rep.owner a own))
@@ -198,7 +201,7 @@ unsettled_excused n b limits J rep copy item run typed refuses there carried non
     never open_both =
         let granted : is_granted (turns a n rep (deeds_at a J)) ≡ true = other_granted (is_own a rep) (is_granted (turns a n rep (deeds_at a J))) not_own ((holdings n limits J run).pinned_granted a rep (some open_both)) in
         let lives = (living n limits J run).listed_live rep.owner rep.index a ((listings n limits J run typed).granted_listed a rep granted open_both.with_owner open_both.owner_up) in
-        both_ways (is_live rep.owner rep.index (deeds_at rep.owner J)) ((owners n limits J run).denied rep.owner b rep.index refuses).1 lives
+        both_ways (is_live rep.owner rep.index (deeds_at rep.owner J)) ((owners n limits J run).denied rep.owner b rep.index (number_at b rep.owner J) refuses).1 lives
 
     not_open : is_open_source n b rep J copy ≡ false
     not_open = false_from_ne_true (is_open_source n b rep J copy) (λ is. never (open_source n b rep J copy is))
@@ -224,7 +227,7 @@ left_excused n b J rep copy not_own left = and_from _ _ (not_from_false (is_own 
         (or_from (closed_at b copy.from J) (not (copy.session == number_at b copy.from J)) its.back (ap not (eq-eqb copy.session (number_at b copy.from J) its.there))) left
 
 -- a copy that waits, or came in a session that b has left, is excused where the owner says no
-rest_excused : (n b : ℕ) (limits : ℕ → Limits) (J : List Entry) (rep : WireRep) → WorldRun n limits J → AreOfTypes J → has_no (gave n rep.owner b rep.index J) ≡ true → closed_at b rep.owner J ≡ false → (copy : Source) → IsCopyOf rep (deeds_at b J) copy → Rests b n (deeds_at b J) copy → is_excuse n b rep J copy ≡ true
+rest_excused : (n b : ℕ) (limits : ℕ → Limits) (J : List Entry) (rep : WireRep) → WorldRun n limits J → AreOfTypes J → has_no (gave_to n rep.owner b rep.index J) ≡ true → closed_at b rep.owner J ≡ false → (copy : Source) → IsCopyOf rep (deeds_at b J) copy → Rests b n (deeds_at b J) copy → is_excuse n b rep J copy ≡ true
 rest_excused n b limits J rep run typed refuses up copy its rest = by (has_left b copy J) refl
   where
     not_own : has_left b copy J ≡ true → is_own copy.from rep ≡ false
@@ -248,7 +251,7 @@ rest_excused n b limits J rep run typed refuses up copy its rest = by (has_left 
         (waits_unsettled copy.from copy.number (settles_among (sent_now n b copy.from J)) (work b n (deeds_at b J)).waiting ((settlements n limits J run).none_waits copy.from b) (waits stays))
 
 -- where the owner of what is pending says no, all copies are excused
-pending_excused : (n b : ℕ) (limits : ℕ → Limits) (J : List Entry) (rep : WireRep) → WorldRun n limits J → AreOfTypes J → has_no (gave n rep.owner b rep.index J) ≡ true → closed_at b rep.owner J ≡ false → is_pending (turns b n rep (deeds_at b J)) ≡ true → AllByRecursion (λ copy. is_excuse n b rep J copy ≡ true) (sources b n rep (deeds_at b J))
+pending_excused : (n b : ℕ) (limits : ℕ → Limits) (J : List Entry) (rep : WireRep) → WorldRun n limits J → AreOfTypes J → has_no (gave_to n rep.owner b rep.index J) ≡ true → closed_at b rep.owner J ≡ false → is_pending (turns b n rep (deeds_at b J)) ≡ true → AllByRecursion (λ copy. is_excuse n b rep J copy ≡ true) (sources b n rep (deeds_at b J))
 pending_excused n b limits J rep run typed refuses up pending =
     let D : List Deed = deeds_at b J in
     let right = right_deeds_at n limits J run b in
@@ -275,7 +278,7 @@ new_excused n p b k limits J rep item run typed right is refused carried =
     let there : slice_get (with_numbers 1 (sent_to n p b J)) (k - 1) ≡ Some (k, Some item) =
     ap (slice_get (with_numbers 1 (sent_to n p b J))) place ∙ numbered_at 1 (sent_to n p b J) t next.item next.was_sent ∙ ap (λ (m : ℕ). Some (m, Some next.item)) (let one : 1 + t ≡ k = omega (arith, number) in one) ∙ ap (λ (i : Item). Some (k, Some i)) same in
     unsettled_excused n b limits J rep (new_source p k (deeds_at b J)) item run typed (refused_denied n limits J run typed b rep refused) there carried
-    (above_none t k (settles_among (sent_now n b p J)) ((settlements n limits J run).were_acted p b) number)
+    (above_none t k (settles_among (sent_now n b p J)) (subst (λ pairs. AllByRecursion (λ j. j ≤ length pairs) (settles_among (sent_now n b p J))) (sym (acted_from_is p b J)) ((settlements n limits J run).were_acted p b (number_at b p J))) number)
 
 -- ---- a loss
 
@@ -301,39 +304,38 @@ act_excused n p b k limits J rep run typed before right (Some (items.DirtyNo ind
     let next = acts_on_next p b n k limits J run (all_fit n limits J run typed p) right.0 in
     let item : next.item ≡ items.DirtyNo index = some_same next.item (items.DirtyNo index) (sym next.found ∙ is) in
     let denies : answer_in rep.index next.item ≡ Some false = ap (answer_in rep.index) item ∙ ap (λ (b : Bool). cond b (Some false) None) (eq-eqb index rep.index (sym same)) in
-    let refuses : has_no (gave n p b rep.index J) ≡ true = denied_alike n p b rep.index J (no_at rep.index (sent_to n p b J) (length (acted_from p b J)) next.item next.was_sent denies) in
+    let refuses : has_no (gave_to n p b rep.index J) ≡ true = no_at rep.index (sent_to n p b J) (length (acted_from p b J)) next.item next.was_sent denies in
     let asks : AnswersPending b n p (Some (items.DirtyNo index)) (deeds_at b J) = subst (λ (one : Option Item). AnswersPending b n p one (deeds_at b J)) is (took_turns b n (limits b) (did.Act p k ∷ deeds_at b J) right).0 in
-    pending_excused n b limits J rep run typed (subst (λ (o : ℕ). has_no (gave n o b rep.index J) ≡ true) (sym owner) refuses)
+    pending_excused n b limits J rep run typed (subst (λ (o : ℕ). has_no (gave_to n o b rep.index J) ≡ true) (sym owner) refuses)
     (ap (λ (q : ℕ). closed q (deeds_at b J)) owner ∙ act_open b n (limits b) p k (deeds_at b J) right.0)
     (subst (λ (r : WireRep). is_pending (turns b n r (deeds_at b J)) ≡ true) (named_ref rep p index loss) asks)
 act_excused n p b k limits J rep run typed before right (Some (items.Clean index)) is loss = cc
 
 -- ---- one entry more
 
--- a session that closed stays closed
-closed_later : (a b : ℕ) (entry : Entry) (J : List Entry) → closed_at a b J ≡ true → closed_at a b (entry ∷ J) ≡ true
-closed_later a b entry J shut = elim (grows a entry J) [
-  | inl same ↦ ap (closed b) same ∙ shut
-  | inr more ↦ ap (closed b) more.3 ∙ stays more.0
-]
+-- of a session that wasn't above the one in which a space was and in which it is: it was in it, and left it no less closed
+kept_low : (n p q k : ℕ) (limits : ℕ → Limits) (entry : Entry) (J : List Entry) → WorldRun n limits (entry ∷ J) → k ≤ number_at p q J → k ≡ number_at p q (entry ∷ J) → (number_at p q (entry ∷ J) ≡ number_at p q J) × (closed_at p q J ≡ true → closed_at p q (entry ∷ J) ≡ true)
+kept_low n p q k limits entry J run low is = by (goes_on n p q limits entry J run)
   where
-    stays : (deed : Deed) → closed b (deed ∷ deeds_at a J) ≡ true
-    stays (did.Closing q reason cause) = or_right (q == b) (closed b (deeds_at a J)) shut
-    stays deed = shut
+    by : GoesOn q (deeds_at p J) (deeds_at p (entry ∷ J)) → (number_at p q (entry ∷ J) ≡ number_at p q J) × (closed_at p q J ≡ true → closed_at p q (entry ∷ J) ≡ true)
+    by (inl stays) = stays
+    by (inr above) = absurd (omega (arith, above, low, is))
 
 -- so what is open was open before
-open_earlier : (a b : ℕ) (entry : Entry) (J : List Entry) → closed_at a b (entry ∷ J) ≡ false → closed_at a b J ≡ false
-open_earlier a b entry J up = false_from_ne_true (closed_at a b J) (λ shut. both_ways (closed_at a b (entry ∷ J)) up (closed_later a b entry J shut))
+open_earlier : (p q : ℕ) (entry : Entry) (J : List Entry) → (closed_at p q J ≡ true → closed_at p q (entry ∷ J) ≡ true) → closed_at p q (entry ∷ J) ≡ false → closed_at p q J ≡ false
+open_earlier p q entry J stays up = false_from_ne_true (closed_at p q J) (λ shut. both_ways (closed_at p q (entry ∷ J)) up (stays shut))
 
-both_earlier : (a b : ℕ) (entry : Entry) (J : List Entry) → both_open a b (entry ∷ J) ≡ true → both_open a b J ≡ true
-both_earlier a b entry J is =
-    let parts = and_parts (are_in_one a b (entry ∷ J)) (not (closed_at a b (entry ∷ J)) && not (closed_at b a (entry ∷ J))) is in
+both_earlier : (n a b k : ℕ) (limits : ℕ → Limits) (entry : Entry) (J : List Entry) → WorldRun n limits (entry ∷ J) → IsReached k a b J → k ≡ number_at a b (entry ∷ J) → both_open a b (entry ∷ J) ≡ true → both_open a b J ≡ true
+both_earlier n a b k limits entry J run low is open_now =
+    let parts = and_parts (are_in_one a b (entry ∷ J)) (not (closed_at a b (entry ∷ J)) && not (closed_at b a (entry ∷ J))) open_now in
     let up = and_parts (not (closed_at a b (entry ∷ J))) (not (closed_at b a (entry ∷ J))) parts.1 in
-    let one : are_in_one a b J ≡ are_in_one a b (entry ∷ J) = λ i. sym (number_kept a b entry J) i == sym (number_kept b a entry J) i in
-    and_from (are_in_one a b J) _ (one ∙ parts.0)
+    let one : number_at a b (entry ∷ J) ≡ number_at b a (entry ∷ J) = eqb-true (number_at a b (entry ∷ J)) (number_at b a (entry ∷ J)) parts.0 in
+    let here = kept_low n a b k limits entry J run low.0 is in
+    let there = kept_low n b a k limits entry J run low.1 (is ∙ one) in
+    and_from (are_in_one a b J) _ (eq-eqb (number_at a b J) (number_at b a J) (sym here.0 ∙ one ∙ there.0))
     (and_from (not (closed_at a b J)) (not (closed_at b a J))
-    (not_from_false (closed_at a b J) (open_earlier a b entry J (not-true (closed_at a b (entry ∷ J)) up.0)))
-    (not_from_false (closed_at b a J) (open_earlier b a entry J (not-true (closed_at b a (entry ∷ J)) up.1))))
+    (not_from_false (closed_at a b J) (open_earlier a b entry J here.1 (not-true (closed_at a b (entry ∷ J)) up.0)))
+    (not_from_false (closed_at b a J) (open_earlier b a entry J there.1 (not-true (closed_at b a (entry ∷ J)) up.1))))
 
 -- ---- the item in which a copy came
 
@@ -354,32 +356,42 @@ sent_found n a test entry J one found = elim (grows a entry J) [
       ∙ found_on test (sent (history_at a n J)) _ one found
 ]
 
-with_owner_earlier : (a : ℕ) (rep : WireRep) (entry : Entry) (J : List Entry) (one : SentItem) → is_with_owner a rep (entry ∷ J) one ≡ true → is_with_owner a rep J one ≡ true
-with_owner_earlier a rep entry J one is = ap (λ (m : ℕ). is_own a rep || owner_session rep one == m) (sym (number_kept a rep.owner entry J)) ∙ is
+any_found : {X : Type 0} (test : X → Bool) (xs : List X) → list_any test xs ≡ true → (x : X) × (find test xs ≡ Some x)
+any_found test [] there = cc
+any_found {X = X} test (y ∷ xs) there = by (test y) (any_found test xs) there
+  where
+    by : (b : Bool) → (list_any test xs ≡ true → (x : X) × (find test xs ≡ Some x)) → (b || list_any test xs) ≡ true → (x : X) × (cond b (Some y) (find test xs) ≡ Some x)
+    by true rest either = (y, refl)
+    by false rest either = rest either
 
-was_earlier : (n b : ℕ) (rep : WireRep) (entry : Entry) (J : List Entry) (copy : Source) (found : Option SentItem) → find (is_source b copy) (sent (history_at copy.from n J)) ≡ found → was_with_owner copy.from rep (entry ∷ J) (find (is_source b copy) (sent (history_at copy.from n (entry ∷ J)))) ≡ true → was_with_owner copy.from rep J found ≡ true
-was_earlier n b rep entry J copy None none is = refl
-was_earlier n b rep entry J copy (Some one) found is =
-    with_owner_earlier copy.from rep entry J one
-    (ap (was_with_owner copy.from rep (entry ∷ J)) (sym (sent_found n copy.from (is_source b copy) entry J one found)) ∙ is)
-
--- a copy whose sessions are open came in sessions that were open before
-source_earlier : (n b : ℕ) (rep : WireRep) (entry : Entry) (J : List Entry) (copy : Source) → is_open_source n b rep (entry ∷ J) copy ≡ true → is_open_source n b rep J copy ≡ true
-source_earlier n b rep entry J copy is =
+-- a copy whose sessions are open came in sessions that were open before, if its sender isn't the owner
+source_earlier : (n b : ℕ) (limits : ℕ → Limits) (rep : WireRep) (entry : Entry) (J : List Entry) (copy : Source) → WorldRun n limits (entry ∷ J) → AreOfTypes J → IsCome n b J copy → is_own copy.from rep ≡ false → is_open_source n b rep (entry ∷ J) copy ≡ true → is_open_source n b rep J copy ≡ true
+source_earlier n b limits rep entry J copy run typed its not_own is =
     let a : ℕ = copy.from in
+    let all : List SentItem = sent (history_at a n J) in
     let parts = and_parts (copy.session == number_at a b (entry ∷ J) && both_open a b (entry ∷ J)) _ is in
     let first = and_parts (copy.session == number_at a b (entry ∷ J)) (both_open a b (entry ∷ J)) parts.0 in
     let second = and_parts (was_with_owner a rep (entry ∷ J) (find (is_source b copy) (sent (history_at a n (entry ∷ J))))) (both_open a rep.owner (entry ∷ J)) parts.1 in
+    let here : copy.session ≡ number_at a b (entry ∷ J) = eqb-true copy.session (number_at a b (entry ∷ J)) first.0 in
+    let stays = kept_low n a b copy.session limits entry J run its.0.0 here in
+    let found = any_found (is_source b copy) all its.1 in
+    let k : ℕ = owner_session rep found.0 in
+    let low : IsReached k a rep.owner J = all_found (λ one. IsReached (owner_session rep one) a rep.owner J) (is_source b copy) all found.0 found.1 (owners_reached n limits J run.1 typed a rep) in
+    let then_with : is_with_owner a rep (entry ∷ J) found.0 ≡ true = ap (was_with_owner a rep (entry ∷ J)) (sym (sent_found n a (is_source b copy) entry J found.0 found.1)) ∙ second.0 in
+    let with_owner : k ≡ number_at a rep.owner (entry ∷ J) = eqb-true k (number_at a rep.owner (entry ∷ J)) (other_granted (is_own a rep) (k == number_at a rep.owner (entry ∷ J)) not_own then_with) in
+    let stays_with = kept_low n a rep.owner k limits entry J run low.0 with_owner in
+    let was_with : was_with_owner a rep J (find (is_source b copy) all) ≡ true = ap (was_with_owner a rep J) found.1 ∙ or_right (is_own a rep) (k == number_at a rep.owner J) (eq-eqb k (number_at a rep.owner J) (with_owner ∙ stays_with.0)) in
     and_from _ _
-    (and_from (copy.session == number_at a b J) (both_open a b J) (ap (λ (m : ℕ). copy.session == m) (sym (number_kept a b entry J)) ∙ first.0) (both_earlier a b entry J first.1))
-    (and_from _ (both_open a rep.owner J) (was_earlier n b rep entry J copy (find (is_source b copy) (sent (history_at a n J))) refl second.0) (both_earlier a rep.owner entry J second.1))
+    (and_from (copy.session == number_at a b J) (both_open a b J) (eq-eqb copy.session (number_at a b J) (here ∙ stays.0)) (both_earlier n a b copy.session limits entry J run its.0 here first.1))
+    (and_from _ (both_open a rep.owner J) was_with (both_earlier n a rep.owner k limits entry J run low with_owner second.1))
 
 -- what is excused stays so
-excused_later : (n b : ℕ) (rep : WireRep) (entry : Entry) (J : List Entry) (copy : Source) → is_excuse n b rep J copy ≡ true → is_excuse n b rep (entry ∷ J) copy ≡ true
-excused_later n b rep entry J copy is =
+excused_later : (n b : ℕ) (limits : ℕ → Limits) (rep : WireRep) (entry : Entry) (J : List Entry) → WorldRun n limits (entry ∷ J) → AreOfTypes J → (copy : Source) → IsCome n b J copy → is_excuse n b rep J copy ≡ true → is_excuse n b rep (entry ∷ J) copy ≡ true
+excused_later n b limits rep entry J run typed copy its is =
     let parts = and_parts (not (is_own copy.from rep)) (not (is_open_source n b rep J copy)) is in
+    let not_own : is_own copy.from rep ≡ false = not-true (is_own copy.from rep) parts.0 in
     and_from _ _ parts.0
-    (not_from_false _ (false_from_ne_true (is_open_source n b rep (entry ∷ J) copy) (λ still. both_ways (is_open_source n b rep J copy) (not-true (is_open_source n b rep J copy) parts.1) (source_earlier n b rep entry J copy still))))
+    (not_from_false _ (false_from_ne_true (is_open_source n b rep (entry ∷ J) copy) (λ still. both_ways (is_open_source n b rep J copy) (not-true (is_open_source n b rep J copy) parts.1) (source_earlier n b limits rep entry J copy run typed its not_own still))))
 
 -- what is refused after an Act
 act_refused : (n p b k : ℕ) (limits : ℕ → Limits) (J : List Entry) (rep : WireRep) → WorldRun n limits J → AreOfTypes J → RefusedExcused n J → AreRightDeeds b n (limits b) (did.Act p k ∷ deeds_at b J) → is_refused (turns b n rep (did.Act p k ∷ deeds_at b J)) ≡ true → AllByRecursion (λ copy. is_excuse n b rep J copy ≡ true) (sources b n rep (did.Act p k ∷ deeds_at b J))
@@ -417,14 +429,15 @@ pub refused_excused : (n : ℕ) (limits : ℕ → Limits) (J : List Entry) → W
 refused_excused n limits [] run typed b rep refused = tt
 refused_excused n limits (entry ∷ J) run typed b rep refused =
     let before : RefusedExcused n J = refused_excused n limits J run.1 typed.1 in
+    let come = copies_come n limits J run.1 typed.1 b rep in
     elim (grows b entry J) [
       | inl same ↦
           subst (λ D. AllByRecursion (λ copy. is_excuse n b rep (entry ∷ J) copy ≡ true) (sources b n rep D)) (sym same)
-          (all_weaker (λ copy. is_excuse n b rep J copy ≡ true) (λ copy. is_excuse n b rep (entry ∷ J) copy ≡ true) (excused_later n b rep entry J) (sources b n rep (deeds_at b J)) (before b rep (ap (λ D. is_refused (turns b n rep D)) (sym same) ∙ refused)))
+          (all_both (IsCome n b J) (λ copy. is_excuse n b rep J copy ≡ true) (λ copy. is_excuse n b rep (entry ∷ J) copy ≡ true) (excused_later n b limits rep entry J run typed.1) (sources b n rep (deeds_at b J)) come (before b rep (ap (λ D. is_refused (turns b n rep D)) (sym same) ∙ refused)))
       | inr more ↦
           let right : AreRightDeeds b n (limits b) (more.0 ∷ deeds_at b J) = subst (AreRightDeeds b n (limits b)) more.3 (right_deeds_at n limits (entry ∷ J) run b) in
           subst (λ D. AllByRecursion (λ copy. is_excuse n b rep (entry ∷ J) copy ≡ true) (sources b n rep D)) (sym more.3)
-          (all_weaker (λ copy. is_excuse n b rep J copy ≡ true) (λ copy. is_excuse n b rep (entry ∷ J) copy ≡ true) (excused_later n b rep entry J) (sources b n rep (more.0 ∷ deeds_at b J)) (deed_refused n b limits J rep more.0 run.1 typed.1 before right (ap (λ D. is_refused (turns b n rep D)) (sym more.3) ∙ refused)))
+          (all_both (IsCome n b J) (λ copy. is_excuse n b rep J copy ≡ true) (λ copy. is_excuse n b rep (entry ∷ J) copy ≡ true) (excused_later n b limits rep entry J run typed.1) (sources b n rep (more.0 ∷ deeds_at b J)) (deed_come n b limits J rep more.0 run.1 typed.1 right come) (deed_refused n b limits J rep more.0 run.1 typed.1 before right (ap (λ D. is_refused (turns b n rep D)) (sym more.3) ∙ refused)))
     ]
 
 -- each reference that an entry loses is excused

@@ -1,6 +1,6 @@
 -- On every list of right deeds the messages of a Call outstanding and the Replies to it are, in the present session, together no
 -- more than the times that it was acted on.
-use Rattle.std.proofs.Common.{◌≡◌, ℕ, ◌+◌, ◌≤◌, ◌&&◌, not, Bool, true, false, cond, List, [], ◌∷◌, ◌++◌, map, filter, find, Option, Some, None, if◌then◌else◌, refl, sym, ap, ◌∙◌, arith}
+use Rattle.std.proofs.Common.{◌≡◌, ℕ, ◌+◌, ◌≤◌, ◌&&◌, not, Bool, true, false, cond, List, [], ◌∷◌, ◌++◌, map, filter, find, Option, Some, None, if◌then◌else◌, refl, sym, ap, subst, ◌∙◌, arith}
 use Rattle.std.specs.Prelude.{⊤, ◌==◌}
 use Rattle.std.specs.List.{cons_option}
 use Rattle.std.proofs.lemmas.Bool.{eqb-true, eq-eqb, and_parts}
@@ -276,15 +276,23 @@ answers_present p k s n limits (did.Settle q j) D right = λ m found same.
 answers_present p k s n limits deed D right = tt
 
 -- the messages of Call k from p outstanding that came in the present session and the Replies to it in that are no more than the times that it was acted on there
-pub calls_fair : (p k s n : ℕ) (limits : Limits) (D : List Deed) → AreRightDeeds s n limits D → calls_outstanding p (number p D) k (work s n D) + count_of (replies_to k) (items_sent_in p (number p D) (sent (history_of s n D))) ≤ count_of (makes_call k) (items_among (acted p D))
+abbrev pub AreFair : (p k s n : ℕ) → List Deed → Type 0
+AreFair p k s n D = calls_outstanding p (number p D) k (work s n D) + count_of (replies_to k) (items_sent_in p (number p D) (sent (history_of s n D))) ≤ count_of (makes_call k) (items_among (acted p D))
+
+-- by a deed that leaves the number of the session
+fair_more : (p k s n : ℕ) (limits : Limits) (deed : Deed) (D : List Deed) → number p (deed ∷ D) ≡ number p D → AreRightDeeds s n limits (deed ∷ D) → AreFair p k s n D → AreFair p k s n (deed ∷ D)
 unfolding gifts
-calls_fair p k s n limits [] right = omega arith
-calls_fair p k s n limits (deed ∷ D) right =
+fair_more p k s n limits deed D same right before =
     let W : Outstanding = work s n D in
-    let before = calls_fair p k s n limits D right.1 in
     let loans = loans_fair p (number p D) k s n (deed ∷ D) (work_after s n deed D W) in
     let fair = deed_fair p (number p D) k s n deed D W (answers_present p k s n limits deed D right) in
     let acted_on = taken_more p (number p D) k deed D in
     let given = count_given (replies_to k) p (λ (gift : Gift). is_peer s n gift.to) (gifts_of s n deed D W) in
     let whole = ap (count_of (replies_to k)) (sent_now_more s n p deed D) ∙ count_append (replies_to k) (items_sent_in p (number p D) (sent (history_of s n D))) (items_to p (gifts s n deed D W)) in
-    omega (arith, before, loans, fair, acted_on, given, whole)
+    subst (λ (m : ℕ). calls_outstanding p m k (work s n (deed ∷ D)) + count_of (replies_to k) (items_sent_in p m (sent (history_of s n (deed ∷ D)))) ≤ count_of (makes_call k) (items_among (acted p (deed ∷ D)))) (sym same)
+    (omega (arith, before, loans, fair, acted_on, given, whole))
+
+-- in every list of right deeds they are
+pub calls_fair : (p k s n : ℕ) (limits : Limits) (D : List Deed) → AreRightDeeds s n limits D → AreFair p k s n D
+calls_fair p k s n limits [] right = omega arith
+calls_fair p k s n limits (deed ∷ D) right = fair_more p k s n limits deed D refl right (calls_fair p k s n limits D right.1)

@@ -1,7 +1,7 @@
 -- What is under way is guarded: who sends it holds the references, so is granted them, so was entered for them, and gives
 -- none up before; and acting on it keeps whoever is entered so.
 use Rattle.std.proofs.Common.{◌≡◌, ℕ, zero, suc, ◌+◌, ◌≤◌, ◌&&◌, ◌||◌, not, Bool, true, false, cond, List, [], ◌∷◌, ◌++◌, length, map, filter, drop, find, Option, Some, None, refl, sym, ap, subst, ◌∙◌, arith, inl, inr}
-use Rattle.std.specs.Prelude.{◌==◌, ◌≢◌}
+use Rattle.std.specs.Prelude.{◌==◌, ◌≢◌, ◌<◌}
 use Rattle.std.specs.List.{AllByRecursion, list_any, slice_get, cons_option}
 use Rattle.std.proofs.lemmas.Bool.{eqb-true, and_parts}
 use Rattle.std.proofs.lemmas.List.{length-append, length_push, drop-append-le}
@@ -50,12 +50,12 @@ use Rattle.nob_model_invariant.specs.Asking.{ask_in, asks_among, items_among, di
 use Rattle.nob_model_holdings.proofs.Lists.{all_map, all_both, all_pass, place_in_whole, some_same}
 use Rattle.nob_model_holdings.proofs.Typing.{next_none, refs_held}
 use Rattle.nob_model_invariant.proofs.Entries.{grows, right_deeds_at}
-use Rattle.nob_model_invariant.proofs.BySession.{sent_in_more, sent_in_same, sent_grows, sent_one}
-use Rattle.nob_model_invariant.proofs.OneSession.{number_kept}
+use Rattle.nob_model_invariant.proofs.BySession.{sent_in_more, sent_in_same, sent_grows, sent_one, acted_from_is}
+use Rattle.nob_model_invariant.proofs.EachSession.{GoesOn, goes_on, rises, none_acted_new, sent_apart}
 use Rattle.nob_model_invariant.proofs.Order.{ActsNow, IsNextOf, acts_on_next, all_fit, in_order_now}
 use Rattle.nob_model_holdings.proofs.Granted.{is_owned, held_owned}
 use Rattle.nob_model_holdings.proofs.Holdings.{holds_owned}
-use Rattle.nob_model_invariant.proofs.Listings.{items_split, answers_now, dirties_append, granted_entered}
+use Rattle.nob_model_invariant.proofs.Listings.{items_split, answers_now, dirties_append, granted_entered, granted_reached}
 use Rattle.nob_model_invariant.proofs.SafetyPoints.{clients, owners}
 use Rattle.nob_model_invariant.specs.Underway.{under_way, calls_object, needs_object, unless_asked, AreGuarded}
 use Rattle.nob_model_invariant.specs.ArrivalLaws.{GuardedLaw}
@@ -183,7 +183,7 @@ module _ (s n : ℕ) (limits : Limits) (D : List Deed) (right : AreRightDeeds s 
   ref_owned rep counted held = held_owned s n limits rep D right (holds_owned s n limits D right) counted held
 
   -- the counted references of a value that may be sent
-  value_owned : (value : Value) → value_refused s (history_of s n D) value ≡ None → AllByRecursion (λ rep. is_owned s n rep D ≡ true) (filter is_counted (refs_in value))
+  pub value_owned : (value : Value) → value_refused s (history_of s n D) value ≡ None → AllByRecursion (λ rep. is_owned s n rep D ≡ true) (filter is_counted (refs_in value))
   value_owned value e =
       let held = refs_held s (history_of s n D) (filter is_counted (refs_in value)) (next_none (is_faulty (pickle_of value)) refusals.TooBig (refs_refused s (history_of s n D) (filter is_counted (refs_in value))) e).1 in
       all_both (λ rep. is_counted rep ≡ true) (λ rep. is_held s rep (history_of s n D) ≡ true) (λ rep. is_owned s n rep D ≡ true) ref_owned (filter is_counted (refs_in value)) (all_pass is_counted (refs_in value)) held
@@ -359,16 +359,73 @@ module _ (n c o x : ℕ) (limits : ℕ → Limits) (J : List Entry) (run : World
         | inr one ↦ subst Left (sym one.3) (deed_left one.0 (subst (AreRightDeeds o n (limits o)) one.3 (right_deeds_at n limits (entry ∷ J) all o)).0 before)
       ]
 
+-- ---- sessions to which the owner hasn't come
+
+module _ (n c o x k : ℕ) (limits : ℕ → Limits) (apart : c ≢ o) where
+  -- what is sent in session k needs nothing
+  abbrev Ahead : List Deed → Type 0
+  Ahead D = AreGuarded o x false (items_sent_in o k (sent (history_of c n D)))
+
+  deed_ahead : (deed : Deed) (J : List Entry) → WorldRun n limits J → AreOfTypes J → AreRightDeeds c n (limits c) (deed ∷ deeds_at c J) → number_at o c J < k → Ahead (deeds_at c J) → Ahead (deed ∷ deeds_at c J)
+  deed_ahead deed J run typed right above before = by (number_at c o J == k) refl
+    where
+      D : List Deed
+      D = deeds_at c J
+
+      by : (b : Bool) → (number_at c o J == k) ≡ b → Ahead (deed ∷ D)
+      by true is =
+          let more : List Item = items_to o (gifts c n deed D (work c n D)) in
+          let here = eqb-true (number_at c o J) k is in
+          let whole = sent_in_more c n o k deed D ∙ ap (λ (b : Bool). sent_in n c o k J ++ cond b more []) is in
+          let never : is_granted (turns c n (own_ref o x) D) ≡ true → false ≡ true = λ granted. absurd (let reached = granted_reached n c limits J (own_ref o x) run typed granted in omega (arith, reached, here, above)) in
+          subst (AreGuarded o x false) (sym whole)
+          (guarded_append o x false (sent_in n c o k J) more before (λ b known. guarded_weaker o x false b more (λ is. absurd (let clash : false ≡ true = is in cc)) (gifts_guarded c n o x (limits c) false deed D apart right never)))
+      by false other = subst (AreGuarded o x false) (sym (sent_in_same c n o k deed D other)) before
+
+  -- what a client sent in a session to which the owner hasn't come needs none of its objects
+  pub none_needed : (J : List Entry) → WorldRun n limits J → AreOfTypes J → number_at o c J < k → AreGuarded o x false (sent_in n c o k J)
+  none_needed [] run typed above = tt
+  none_needed (entry ∷ J) run typed above =
+      let low = rises n o c limits entry J run in
+      let earlier : number_at o c J < k = omega (arith, low, above) in
+      let before : Ahead (deeds_at c J) = none_needed J run.1 typed.1 earlier in
+      elim (grows c entry J) [
+        | inl same ↦ subst Ahead (sym same) before
+        | inr more ↦ subst Ahead (sym more.3) (deed_ahead more.0 J run.1 typed.1 (subst (AreRightDeeds c n (limits c)) more.3 (right_deeds_at n limits (entry ∷ J) run c)) earlier before)
+      ]
+
 -- ---- a run
+
+-- where an entry leaves the owner in its session
+guarded_stays : (n c o x : ℕ) (limits : ℕ → Limits) → c ≢ o → (entry : Entry) (J : List Entry) → WorldRun n limits (entry ∷ J) → AreOfTypes (entry ∷ J) → number_at o c (entry ∷ J) ≡ number_at o c J → AreGuarded o x (is_entered o x c (deeds_at o J)) (under_way n c o J) → AreGuarded o x (is_entered o x c (deeds_at o (entry ∷ J))) (under_way n c o (entry ∷ J))
+guarded_stays n c o x limits apart entry J run typed same before =
+    let longer = sent_grows n c o (number_at o c J) entry J in
+    subst (λ (k : ℕ). AreGuarded o x (is_entered o x c (deeds_at o (entry ∷ J))) (drop (length (acted_from c o (entry ∷ J))) (sent_in n c o k (entry ∷ J)))) (sym same)
+    (entry_left n c o x limits J run.1 typed.1 longer.0 (sent_in n c o (number_at o c J) (entry ∷ J)) (sym longer.1) entry run
+    (entry_sends n c o x limits apart entry J run typed before))
+
+-- and where it opens one
+guarded_opens : (n c o x : ℕ) (limits : ℕ → Limits) → c ≢ o → (entry : Entry) (J : List Entry) → WorldRun n limits (entry ∷ J) → AreOfTypes (entry ∷ J) → number_at o c J < number_at o c (entry ∷ J) → AreGuarded o x (is_entered o x c (deeds_at o (entry ∷ J))) (under_way n c o (entry ∷ J))
+guarded_opens n c o x limits apart entry J run typed above =
+    let k : ℕ = number_at o c (entry ∷ J) in
+    let entered : Bool = is_entered o x c (deeds_at o (entry ∷ J)) in
+    let none : acted_from c o (entry ∷ J) ≡ [] = acted_from_is c o (entry ∷ J) ∙ none_acted_new n c o limits entry J run above in
+    let same = sent_apart n c o limits entry J apart above k in
+    subst (λ pairs. AreGuarded o x entered (drop (length pairs) (sent_in n c o k (entry ∷ J)))) (sym none)
+    (guarded_weaker o x false entered (sent_in n c o k (entry ∷ J)) (λ is. absurd (let clash : false ≡ true = is in cc))
+    (subst (AreGuarded o x false) (sym same) (none_needed n c o x k limits apart J run.1 typed.1 above)))
 
 -- what is under way is guarded
 pub all_guarded : (n c o x : ℕ) (limits : ℕ → Limits) → c ≢ o → (J : List Entry) → WorldRun n limits J → AreOfTypes J → AreGuarded o x (is_entered o x c (deeds_at o J)) (under_way n c o J)
 all_guarded n c o x limits apart [] run typed = tt
-all_guarded n c o x limits apart (entry ∷ J) run typed =
-    let longer = sent_grows n c o (number_at o c J) entry J in
-    subst (λ (k : ℕ). AreGuarded o x (is_entered o x c (deeds_at o (entry ∷ J))) (drop (length (acted_from c o (entry ∷ J))) (sent_in n c o k (entry ∷ J)))) (sym (number_kept o c entry J))
-    (entry_left n c o x limits J run.1 typed.1 longer.0 (sent_in n c o (number_at o c J) (entry ∷ J)) (sym longer.1) entry run
-    (entry_sends n c o x limits apart entry J run typed (all_guarded n c o x limits apart J run.1 typed.1)))
+all_guarded n c o x limits apart (entry ∷ J) run typed = by (goes_on n o c limits entry J run) (all_guarded n c o x limits apart J run.1 typed.1)
+  where
+    by : GoesOn c (deeds_at o J) (deeds_at o (entry ∷ J)) → AreGuarded o x (is_entered o x c (deeds_at o J)) (under_way n c o J) → AreGuarded o x (is_entered o x c (deeds_at o (entry ∷ J))) (under_way n c o (entry ∷ J))
+    by (inl stays) before = guarded_stays n c o x limits apart entry J run typed stays.0 before
+    by (inr above) before = guarded_opens n c o x limits apart entry J run typed above
 
 pub guarded_law : GuardedLaw
-guarded_law n limits J run typed = record { guarded = λ c o x apart. all_guarded n c o x limits apart J run typed }
+guarded_law n limits J run typed = record {
+  guarded = λ c o x apart. all_guarded n c o x limits apart J run typed;
+  ahead = λ c o x session apart above. none_needed n c o x session limits apart J run typed above;
+}

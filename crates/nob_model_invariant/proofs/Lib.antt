@@ -13,6 +13,7 @@ pub mod Known
 pub mod Denied
 pub mod Standing
 pub mod Copied
+pub mod Numbers
 pub mod Excused
 pub mod Points
 pub mod Placed
@@ -21,8 +22,8 @@ pub mod Numbered
 pub mod Reading
 pub mod Giving
 pub mod Entries
-pub mod OneSession
 pub mod BySession
+pub mod EachSession
 pub mod Coming
 pub mod Frames
 pub mod Pairs

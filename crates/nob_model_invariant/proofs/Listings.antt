@@ -1,9 +1,11 @@
 -- A client that is granted a reference is listed for it: the owner acted on its last Dirty and answered it by DirtyOk, and
 -- no Clean follows.
-use Rattle.std.proofs.Common.{◌≡◌, ℕ, ◌+◌, ◌&&◌, not, Bool, true, false, List, [], ◌∷◌, ◌++◌, length, filter, Option, refl, sym, ap, subst, ◌∙◌, arith}
-use Rattle.std.proofs.lemmas.Bool.{and_parts, and_from, eqb-true}
+use Rattle.std.proofs.Common.{◌≡◌, ℕ, ◌+◌, ◌≤◌, ◌&&◌, not, Bool, true, false, List, [], ◌∷◌, ◌++◌, length, filter, Option, refl, sym, ap, subst, ◌∙◌, arith}
+use Rattle.std.specs.Prelude.{◌<◌, nat_le}
+use Rattle.std.proofs.lemmas.Bool.{and_parts, and_from, eqb-true, leb-true, leb-false}
 use Rattle.std.proofs.lemmas.List.{append-nil, length-append, nil_from_length}
 use Rattle.std.proofs.lemmas.List.Elements.{filter-append, filter_map-append}
+use Rattle.nob_ids.specs.declared.limits.Limits.{Limits}
 use Rattle.nob_ids.specs.declared.wire_rep.WireRep.{WireRep}
 use Rattle.nob_item.specs.declared.item.Item.{Item}
 use Rattle.nob_model_session.specs.Pair.{IsBeginning}
@@ -11,11 +13,15 @@ use Rattle.nob_model_types.specs.declared.entry.Entry.{Entry}
 use Rattle.nob_model_types.specs.declared.turns.OwnerAnswer.TheVariants as said
 use Rattle.nob_model_types.specs.declared.turns.Turns.{Turns}
 use Rattle.nob_model_types.specs.Turns.{turns, is_granted, is_yes}
-use Rattle.nob_model_journal.specs.Journals.{deeds_at, are_in_one, sent_now, sent_to, acted_from}
-use Rattle.nob_model_journal.specs.Fronts.{with_numbers}
+use Rattle.nob_model_journal.specs.Journals.{deeds_at, number_at, are_in_one, sent_in, sent_now, sent_to, acted_in, acted_from}
+use Rattle.nob_model_journal.specs.Runs.{WorldRun}
+use Rattle.nob_model_journal.specs.Fronts.{with_numbers, ActsInOrder}
+use Rattle.nob_model_invariant.specs.Typed.{AreOfTypes}
 use Rattle.nob_model_invariant.specs.Asking.{ask_in, answer_in, asks_among, answers_among, items_among, dirties_in, last_or, last_word, turns_by, asked, heard, was_asked, gave}
 use Rattle.nob_model_invariant.specs.SafetyLaws.{ListingsLaw}
+use Rattle.nob_model_invariant.proofs.Entries.{right_deeds_at}
 use Rattle.nob_model_invariant.proofs.BySession.{sent_one, sent_back}
+use Rattle.nob_model_invariant.proofs.EachSession.{none_sent_above}
 use Rattle.nob_model_invariant.proofs.Order.{ActsNow, in_order_now}
 use Rattle.nob_model_invariant.proofs.SafetyPoints.{clients, owners}
 
@@ -25,7 +31,11 @@ items_numbered : (k : ℕ) (items : List Item) → items_among (with_numbers k i
 items_numbered k [] = refl
 items_numbered k (item ∷ items) = ap (λ more. item ∷ more) (items_numbered (k + 1) items)
 
--- what was acted on and what stands behind it is what was sent
+-- what was acted on in a session and what stands behind it is what was sent in it
+pub split_in : (n a b k : ℕ) (J : List Entry) → (begins : ActsInOrder n a b k J) → items_among (acted_in a b k J) ++ items_among begins.0 ≡ sent_in n a b k J
+split_in n a b k J begins = sym (filter_map-append (λ (pair : ℕ × Option Item). pair.1) (acted_in a b k J) begins.0) ∙ ap items_among begins.1 ∙ items_numbered 1 (sent_in n a b k J)
+
+-- so it is in the one in which the space is that acts
 pub items_split : (n a b : ℕ) (J : List Entry) → (begins : ActsNow n a b J) → items_among (acted_from a b J) ++ items_among begins.0 ≡ sent_to n a b J
 items_split n a b J begins = sym (filter_map-append (λ (pair : ℕ × Option Item). pair.1) (acted_from a b J) begins.0) ∙ ap items_among begins.1 ∙ items_numbered 1 (sent_to n a b J)
 
@@ -90,6 +100,28 @@ granted_entered n J c rep one there back are each granted =
     let parts = granted_parts (turns_by (asked n c rep J) (heard c rep J)) (ap is_granted (sym are) ∙ granted) in
     let ends = granted_ends (asked n c rep J) (was_asked rep.owner c rep.index J) (heard c rep J) (gave n rep.owner c rep.index J) (asks_now n J c rep.owner rep.index one there) (answers_now n J c rep.owner rep.index one back) parts.1 each parts.0 in
     and_from _ _ ends.0 (ap (λ bs. is_yes (last_word said.Pending bs)) ends.1 ∙ parts.2)
+
+-- what is granted was granted in a session to which its owner came
+pub granted_reached : (n c : ℕ) (limits : ℕ → Limits) (J : List Entry) (rep : WireRep) → WorldRun n limits J → AreOfTypes J → is_granted (turns c n rep (deeds_at c J)) ≡ true → number_at c rep.owner J ≤ number_at rep.owner c J
+granted_reached n c limits J rep run typed granted = by (nat_le (number_at c rep.owner J) (number_at rep.owner c J)) refl
+  where
+    o : ℕ
+    o = rep.owner
+
+    -- an owner that hasn't come to it answered nothing in it
+    never : number_at o c J < number_at c o J → ⊥
+    never above =
+        let begins = answers_begin rep.index (items_among (acted_from o c J)) (sent_to n o c J) (items_begin n o c J (in_order_now n limits J run typed o c)) in
+        let none : sent_to n o c J ≡ [] = none_sent_above o n c (number_at c o J) (limits o) (deeds_at o J) (right_deeds_at n limits J run o) above in
+        let size = sym (length-append (heard c rep J) begins.0) ∙ ap length begins.1 ∙ ap (λ all. length (answers_among rep.index all)) none in
+        let parts = granted_parts (turns_by (asked n c rep J) (heard c rep J)) (ap is_granted (sym ((clients n limits J run).turns_are c rep)) ∙ granted) in
+        let each = parts.1 in
+        let clash : false ≡ true = last_before false (asked n c rep J) (omega (arith, size, each)) parts.0 in
+        cc
+
+    by : (b : Bool) → nat_le (number_at c o J) (number_at o c J) ≡ b → number_at c o J ≤ number_at o c J
+    by true is = leb-true (number_at c o J) (number_at o c J) is
+    by false is = absurd (never (let above = leb-false (number_at c o J) (number_at o c J) is in omega (arith, above)))
 
 pub listings : ListingsLaw
 listings n limits J run typed = record {

@@ -38,6 +38,7 @@ use Rattle.nob_model.proofs.Accepted.{act_tells}
 use Rattle.nob_model.proofs.Premises.{in_turn, item_acted, no_fault}
 use Rattle.nob_model.proofs.Carrying.{all_filter}
 use Rattle.nob_model_invariant.specs.Asking.{ask_in, answer_in, asks_among, answers_among, items_among, dirties_in, last_or, word_of, last_word, has_no, OkFirst, AnsweredInTurn}
+use Rattle.nob_model_invariant.proofs.BySession.{sent_stays}
 use Rattle.nob_model_invariant.proofs.Bools.{dirties_push, last_push, word_push}
 
 -- what space s answered a client for an index in the session in which it is, and what the client asked
@@ -144,11 +145,12 @@ answers_to : (c x : ℕ) (more : List Gift) → answers_among x (items_to c more
 answers_to c x [] = refl
 answers_to c x (gift ∷ more) = to_client c x (gift.to == c) gift (filter (λ (one : Gift). one.to == c) more) ∙ ap (cons_option (gift_answers c x gift)) (answers_to c x more)
 
--- by one deed more that is answered which its gifts answer
-gave_more : (s n c x : ℕ) (deed : Deed) (D : List Deed) → gave_of s n c x (deed ∷ D) ≡ gave_of s n c x D ++ gifts_answer c x (gifts s n deed D (work s n D))
-gave_more s n c x deed D =
+-- by one deed more, in the session in which the space was, that is answered which its gifts answer
+gave_more : (s n c x : ℕ) (deed : Deed) (D : List Deed) → number c (deed ∷ D) ≡ number c D → gave_of s n c x (deed ∷ D) ≡ gave_of s n c x D ++ gifts_answer c x (gifts s n deed D (work s n D))
+gave_more s n c x deed D same =
     let more : List Gift = gifts s n deed D (work s n D) in
-    ap (answers_among x) (gifts_sent_now c D more (sent (history_of s n D)))
+    ap (λ (k : ℕ). answers_among x (items_sent_in c k (sent (history_of s n (deed ∷ D))))) same
+    ∙ ap (answers_among x) (gifts_sent_now c D more (sent (history_of s n D)))
     ∙ filter_map-append (answer_in x) (items_sent_in c (number c D) (sent (history_of s n D))) (items_to c more)
     ∙ ap (λ bs. gave_of s n c x D ++ bs) (answers_to c x more)
 
@@ -246,10 +248,10 @@ gives_none x s n (did.Settle p k) D none = settle_none x s n p k D (find (is_of 
 gives_none x s n (did.Clean rep) D none = clean_none x rep (turns s n rep D).asks
 gives_none x s n deed D none = tt
 
-answers_nothing : (s n c x : ℕ) (deed : Deed) (D : List Deed) → may_answer deed D ≡ false → gave_of s n c x (deed ∷ D) ≡ gave_of s n c x D
+answers_nothing : (s n c x : ℕ) (deed : Deed) (D : List Deed) → number c (deed ∷ D) ≡ number c D → may_answer deed D ≡ false → gave_of s n c x (deed ∷ D) ≡ gave_of s n c x D
 unfolding gifts
-answers_nothing s n c x deed D none =
-    gave_more s n c x deed D
+answers_nothing s n c x deed D same none =
+    gave_more s n c x deed D same
     ∙ ap (λ bs. gave_of s n c x D ++ bs) (none_answered c x (filter (λ (gift : Gift). is_peer s n gift.to) (gifts_of s n deed D (work s n D))) (all_filter (λ (gift : Gift). answer_in x gift.item ≡ None) (λ (gift : Gift). is_peer s n gift.to) (gifts_of s n deed D (work s n D)) (gives_none x s n deed D none)))
     ∙ append-nil (gave_of s n c x D)
 
@@ -292,7 +294,7 @@ other_act : (s n c x p k : ℕ) (item : Item) (D : List Deed) → item_at p k D 
 other_act s n c x p k item D is none nothing same are =
     answered_by s n c x p k item D (asked_of c x D) (gave_of s n c x D) (is_entered s x c D)
     (asked_more c x p k item D is ∙ ap (λ bs. asked_of c x D ++ bs) (nothing_either (p == c) _ nothing) ∙ append-nil (asked_of c x D))
-    (answers_nothing s n c x (did.Act p k) D (ap is_ask is ∙ none))
+    (answers_nothing s n c x (did.Act p k) D refl (ap is_ask is ∙ none))
     (ap (λ found. cond (p == c) (is_entered_after s x found D (is_entered s x c D)) (is_entered s x c D)) is ∙ ap (λ (b : Bool). cond (p == c) b (is_entered s x c D)) same ∙ before_either (p == c) (is_entered s x c D))
     are
 
@@ -305,7 +307,7 @@ clean_act : (s n c x p k index : ℕ) (D : List Deed) → item_at p k D ≡ Some
 clean_act s n c x p k index D is are =
     answered_by s n c x p k (items.Clean index) D _ (gave_of s n c x D) _
     (asked_more c x p k (items.Clean index) D is)
-    (answers_nothing s n c x (did.Act p k) D (ap is_ask is))
+    (answers_nothing s n c x (did.Act p k) D refl (ap is_ask is))
     (ap (λ found. cond (p == c) (is_entered_after s x found D (is_entered s x c D)) (is_entered s x c D)) is)
     (clean_step (p == c) (index == x) (asked_of c x D) (gave_of s n c x D) (is_exported s x D) (is_withdrawn x D) (is_entered s x c D) are)
 
@@ -338,7 +340,7 @@ unfolding gifts gifts_of gifts_of_act answer_to
 dirty_act s n c x p k index D peer known is are =
     answered_by s n c x p k (items.Dirty index) D _ _ _
     (asked_more c x p k (items.Dirty index) D is)
-    (gave_more s n c x (did.Act p k) D
+    (gave_more s n c x (did.Act p k) D refl
     ∙ ap (λ found. gave_of s n c x D ++ gifts_answer c x (filter (λ (gift : Gift). is_peer s n gift.to) (gifts_of_act s n p D found))) is
     ∙ ap (λ bs. gave_of s n c x D ++ bs) (answer_tells s n c x p index (is_live s index D) (is_exported s index D) peer known))
     (ap (λ found. cond (p == c) (is_entered_after s x found D (is_entered s x c D)) (is_entered s x c D)) is)
@@ -356,11 +358,11 @@ item_act s n c x p k (items.Clean index) D peer none is are = clean_act s n c x 
 
 -- ---- a deed
 
--- a deed that neither exports nor withdraws
-other_deed : (s n c x : ℕ) (deed : Deed) (D : List Deed) → may_answer deed D ≡ false → asked_of c x (deed ∷ D) ≡ asked_of c x D → is_entered s x c (deed ∷ D) ≡ is_entered s x c D → (is_exported s x D ≡ true → is_exported s x (deed ∷ D) ≡ true) → (is_withdrawn x D ≡ true → is_withdrawn x (deed ∷ D) ≡ true) → IsAnswered s n c x D → IsAnswered s n c x (deed ∷ D)
-other_deed s n c x deed D none asked entry keeps stays are =
+-- a deed that leaves the number of the session, and neither exports nor withdraws
+other_deed : (s n c x : ℕ) (deed : Deed) (D : List Deed) → number c (deed ∷ D) ≡ number c D → may_answer deed D ≡ false → asked_of c x (deed ∷ D) ≡ asked_of c x D → is_entered s x c (deed ∷ D) ≡ is_entered s x c D → (is_exported s x D ≡ true → is_exported s x (deed ∷ D) ≡ true) → (is_withdrawn x D ≡ true → is_withdrawn x (deed ∷ D) ≡ true) → IsAnswered s n c x D → IsAnswered s n c x (deed ∷ D)
+other_deed s n c x deed D same none asked entry keeps stays are =
     subst (λ bs. AreAnswered bs (gave_of s n c x (deed ∷ D)) (is_exported s x (deed ∷ D)) (is_withdrawn x (deed ∷ D)) (is_entered s x c (deed ∷ D))) (sym asked)
-    (subst (λ bs. AreAnswered (asked_of c x D) bs (is_exported s x (deed ∷ D)) (is_withdrawn x (deed ∷ D)) (is_entered s x c (deed ∷ D))) (sym (answers_nothing s n c x deed D none))
+    (subst (λ bs. AreAnswered (asked_of c x D) bs (is_exported s x (deed ∷ D)) (is_withdrawn x (deed ∷ D)) (is_entered s x c (deed ∷ D))) (sym (answers_nothing s n c x deed D same none))
     (subst (λ (b : Bool). AreAnswered (asked_of c x D) (gave_of s n c x D) (is_exported s x (deed ∷ D)) (is_withdrawn x (deed ∷ D)) b) (sym entry)
     (later_answered (asked_of c x D) (gave_of s n c x D) (is_exported s x D) (is_withdrawn x D) (is_entered s x c D) (is_exported s x (deed ∷ D)) (is_withdrawn x (deed ∷ D)) keeps stays are)))
 
@@ -379,6 +381,27 @@ exported_later s x rep D known = any_push (is_same (record { owner = s; index = 
 pub are_answered : (s n : ℕ) (limits : Limits) (c x : ℕ) (D : List Deed) → AreRightDeeds s n limits D → IsAnswered s n c x D
 are_answered s n limits c x [] right = record { in_turn = record { each = refl; ok_first = tt }; denied = λ no. cc; enters = refl }
 are_answered s n limits c x (did.Act p k ∷ D) right = act_answered s n limits c x p k D right (are_answered s n limits c x D right.1)
-are_answered s n limits c x (did.Export rep ∷ D) right = other_deed s n c x (did.Export rep) D refl refl refl (exported_later s x rep D) (λ gone. gone) (are_answered s n limits c x D right.1)
-are_answered s n limits c x (did.Withdraw index ∷ D) right = other_deed s n c x (did.Withdraw index) D refl refl refl (λ known. known) (λ gone. or_right (index == x) (is_withdrawn x D) gone) (are_answered s n limits c x D right.1)
-are_answered s n limits c x (deed ∷ D) right = other_deed s n c x deed D refl refl refl (λ known. known) (λ gone. gone) (are_answered s n limits c x D right.1)
+are_answered s n limits c x (did.Export rep ∷ D) right = other_deed s n c x (did.Export rep) D refl refl refl refl (exported_later s x rep D) (λ gone. gone) (are_answered s n limits c x D right.1)
+are_answered s n limits c x (did.Withdraw index ∷ D) right = other_deed s n c x (did.Withdraw index) D refl refl refl refl (λ known. known) (λ gone. or_right (index == x) (is_withdrawn x D) gone) (are_answered s n limits c x D right.1)
+are_answered s n limits c x (deed ∷ D) right = other_deed s n c x deed D refl refl refl refl (λ known. known) (λ gone. gone) (are_answered s n limits c x D right.1)
+
+-- ---- each session
+
+exported_stays : (s x : ℕ) (deed : Deed) (D : List Deed) → is_exported s x D ≡ true → is_exported s x (deed ∷ D) ≡ true
+exported_stays s x (did.Export rep) D known = exported_later s x rep D known
+exported_stays s x deed D known = known
+
+withdrawn_stays : (x : ℕ) (deed : Deed) (D : List Deed) → is_withdrawn x D ≡ true → is_withdrawn x (deed ∷ D) ≡ true
+withdrawn_stays x (did.Withdraw index) D gone = or_right (index == x) (is_withdrawn x D) gone
+withdrawn_stays x deed D gone = gone
+
+-- in every list of right deeds what was denied in a session was exported and withdrawn
+pub gone_in : (s n : ℕ) (limits : Limits) (c x k : ℕ) (D : List Deed) → AreRightDeeds s n limits D → has_no (answers_among x (items_sent_in c k (sent (history_of s n D)))) ≡ true → (is_exported s x D ≡ true) × (is_withdrawn x D ≡ true)
+gone_in s n limits c x k [] right refuses = cc
+gone_in s n limits c x k (deed ∷ D) right refuses = by (number c (deed ∷ D) == k) refl (gone_in s n limits c x k D right.1) refuses
+  where
+    by : (b : Bool) → (number c (deed ∷ D) == k) ≡ b → (has_no (answers_among x (items_sent_in c k (sent (history_of s n D)))) ≡ true → (is_exported s x D ≡ true) × (is_withdrawn x D ≡ true)) → has_no (answers_among x (items_sent_in c k (sent (history_of s n (deed ∷ D))))) ≡ true → (is_exported s x (deed ∷ D) ≡ true) × (is_withdrawn x (deed ∷ D) ≡ true)
+    by true is before refuses = (are_answered s n limits c x (deed ∷ D) right).denied (subst (λ (m : ℕ). has_no (answers_among x (items_sent_in c m (sent (history_of s n (deed ∷ D))))) ≡ true) (sym (eqb-true (number c (deed ∷ D)) k is)) refuses)
+    by false other before refuses =
+        let gone = before (ap (λ more. has_no (answers_among x more)) (sym (sent_stays s n c k deed D other)) ∙ refuses) in
+        (exported_stays s x deed D gone.0, withdrawn_stays x deed D gone.1)

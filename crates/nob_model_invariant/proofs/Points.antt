@@ -12,7 +12,7 @@ use Rattle.nob_model_invariant.specs.Copies.{carries_any, is_waiting}
 use Rattle.nob_model_invariant.specs.LossLaws.{SettledLaw, WaitingLaw, DenialsLaw, CopiesLaw}
 use Rattle.nob_model_invariant.proofs.Done.{IsDone, all_done}
 use Rattle.nob_model_invariant.proofs.Known.{all_known}
-use Rattle.nob_model_invariant.proofs.Denied.{denied_settled}
+use Rattle.nob_model_invariant.proofs.Denied.{denied_in}
 use Rattle.nob_model_invariant.proofs.Copied.{are_copied}
 use Rattle.nob_model_invariant.proofs.Excused.{refused_excused}
 
@@ -33,7 +33,7 @@ pub waiting : WaitingLaw
 waiting n limits J run = record { known = λ b. all_known b n (limits b) (deeds_at b J) (right_deeds_at n limits J run b) }
 
 pub denials : DenialsLaw
-denials n limits J run = record { settled = λ o b x refuses. denied_settled o n (limits o) b x (deeds_at o J) (right_deeds_at n limits J run o) refuses }
+denials n limits J run = record { settled = λ o b x session refuses. denied_in o n (limits o) b x session (deeds_at o J) (right_deeds_at n limits J run o) refuses }
 
 pub copied : CopiesLaw
 copied n limits J run typed = record {

@@ -13,7 +13,7 @@ use Rattle.nob_model_types.specs.declared.deed.Deed.{Deed}
 use Rattle.nob_model_types.specs.declared.deed.Deed.TheVariants as did
 use Rattle.nob_model_types.specs.declared.message.RefCopy.{RefCopy}
 use Rattle.nob_model_types.specs.declared.message.Message.{Message}
-use Rattle.nob_model_types.specs.Sessions.{is_peer, item_at, acted}
+use Rattle.nob_model_types.specs.Sessions.{is_peer, item_at, acted, number}
 use Rattle.nob_model_types.specs.Messages.{new_message, new_copy, message_after, is_of}
 use Rattle.nob_model_work.specs.Work.{is_none_of, work}
 use Rattle.nob_model_history.specs.Histories.{history_of}
@@ -86,10 +86,10 @@ new_waits s n limits p deed D right q k item is found some = λ own.
     subst (λ (one : Deed). IsCarrying (acted p (one ∷ D)) k) (sym is)
     (new_carried s n limits p q k item D (subst (λ (one : Deed). AreRightDeeds s n limits (one ∷ D)) is right) found (some_copies (λ rep. new_copy s n (did.Act q k ∷ D) rep) (counted_in item) some) own)
 
-other_carries : (s n : ℕ) (limits : Limits) (p : ℕ) (deed : Deed) (D : List Deed) → AreRightDeeds s n limits (deed ∷ D) → is_settle deed ≡ false → SettledCarry s n p D → SettledCarry s n p (deed ∷ D)
-other_carries s n limits p deed D right none before = record {
+other_carries : (s n : ℕ) (limits : Limits) (p : ℕ) (deed : Deed) (D : List Deed) → number p (deed ∷ D) ≡ number p D → AreRightDeeds s n limits (deed ∷ D) → is_settle deed ≡ false → SettledCarry s n p D → SettledCarry s n p (deed ∷ D)
+other_carries s n limits p deed D same right none before = record {
   waits = waits_more (IsOfCarrying p (deed ∷ D)) s n deed D (kept s n p (deed ∷ D) (deed ∷ D)) (new_waits s n limits p deed D right) (still_waits s n p deed D before.waits);
-  settled = subst (AllByRecursion (IsCarrying (acted p (deed ∷ D)))) (sym (settles_same s n p deed D none)) (still_settled s n p deed D (settles_of s n p D) before.settled);
+  settled = subst (AllByRecursion (IsCarrying (acted p (deed ∷ D)))) (sym (settles_same s n p deed D same none)) (still_settled s n p deed D (settles_of s n p D) before.settled);
 }
 
 settled_by : (s n p k : ℕ) (D : List Deed) (ks : List ℕ) (b : Bool) → AllByRecursion (IsCarrying (acted p D)) ks → (b ≡ true → IsCarrying (acted p D) k) → AllByRecursion (IsCarrying (acted p D)) (ks ++ cond b (k ∷ []) [])
@@ -110,4 +110,4 @@ settle_carries s n limits p q k D right before =
 pub settled_carry : (s n : ℕ) (limits : Limits) (p : ℕ) (D : List Deed) → AreRightDeeds s n limits D → SettledCarry s n p D
 settled_carry s n limits p [] right = record { waits = tt; settled = tt }
 settled_carry s n limits p (did.Settle q k ∷ D) right = settle_carries s n limits p q k D right (settled_carry s n limits p D right.1)
-settled_carry s n limits p (deed ∷ D) right = other_carries s n limits p deed D right refl (settled_carry s n limits p D right.1)
+settled_carry s n limits p (deed ∷ D) right = other_carries s n limits p deed D refl right refl (settled_carry s n limits p D right.1)

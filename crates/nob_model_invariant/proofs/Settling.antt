@@ -135,10 +135,11 @@ settles_to : (p : ℕ) (more : List Gift) → filter_map settle_in (items_to p m
 settles_to p [] = refl
 settles_to p (gift ∷ more) = to_peer p (gift.to == p) gift (filter (λ (one : Gift). one.to == p) more) ∙ ap (cons_option (gift_settles p gift)) (settles_to p more)
 
-settles_more : (s n p : ℕ) (deed : Deed) (D : List Deed) → settles_of s n p (deed ∷ D) ≡ settles_of s n p D ++ gifts_settle p (gifts s n deed D (work s n D))
-settles_more s n p deed D =
+settles_more : (s n p : ℕ) (deed : Deed) (D : List Deed) → number p (deed ∷ D) ≡ number p D → settles_of s n p (deed ∷ D) ≡ settles_of s n p D ++ gifts_settle p (gifts s n deed D (work s n D))
+settles_more s n p deed D same =
     let more : List Gift = gifts s n deed D (work s n D) in
-    ap (filter_map settle_in) (gifts_sent_now p D more (sent (history_of s n D)))
+    ap (λ (k : ℕ). filter_map settle_in (items_sent_in p k (sent (history_of s n (deed ∷ D))))) same
+    ∙ ap (filter_map settle_in) (gifts_sent_now p D more (sent (history_of s n D)))
     ∙ filter_map-append settle_in (items_sent_in p (number p D) (sent (history_of s n D))) (items_to p more)
     ∙ ap (λ ks. settles_of s n p D ++ ks) (settles_to p more)
 
@@ -229,10 +230,10 @@ gives_none s n (did.Settle p k) D none = cc
 gives_none s n (did.Clean rep) D none = clean_none rep (turns s n rep D).asks
 gives_none s n deed D none = tt
 
-pub settles_same : (s n p : ℕ) (deed : Deed) (D : List Deed) → is_settle deed ≡ false → settles_of s n p (deed ∷ D) ≡ settles_of s n p D
+pub settles_same : (s n p : ℕ) (deed : Deed) (D : List Deed) → number p (deed ∷ D) ≡ number p D → is_settle deed ≡ false → settles_of s n p (deed ∷ D) ≡ settles_of s n p D
 unfolding gifts
-settles_same s n p deed D none =
-    settles_more s n p deed D
+settles_same s n p deed D same none =
+    settles_more s n p deed D same
     ∙ ap (λ ks. settles_of s n p D ++ ks) (none_settled p (filter (λ (gift : Gift). is_peer s n gift.to) (gifts_of s n deed D (work s n D))) (all_filter (λ (gift : Gift). settle_in gift.item ≡ None) (λ (gift : Gift). is_peer s n gift.to) (gifts_of s n deed D (work s n D)) (gives_none s n deed D none)))
     ∙ append-nil (settles_of s n p D)
 
@@ -254,7 +255,7 @@ settle_if s n p q k more none false own is same =
 pub settles_now : (s n p q k : ℕ) (D : List Deed) (m : Message) → find (is_of q k) (work s n D).waiting ≡ Some m → settles_of s n p (did.Settle q k ∷ D) ≡ settles_of s n p D ++ cond (is_peer s n q && q == p) (k ∷ []) []
 unfolding gifts gifts_of gifts_of_settle
 settles_now s n p q k D m found =
-    settles_more s n p (did.Settle q k) D
+    settles_more s n p (did.Settle q k) D refl
     ∙ ap (λ one. settles_of s n p D ++ gifts_settle p (filter (λ (gift : Gift). is_peer s n gift.to) (gifts_of_settle s n q k D one))) found
     ∙ ap (λ ks. settles_of s n p D ++ ks) (settle_if s n p q k (lost_call_reply q m.item (is_lost_message s n D m)) (lost_none q m.item (is_lost_message s n D m)) (is_peer s n q) (q == p) refl refl)
 
@@ -287,9 +288,9 @@ new_over s n limits p deed D right before q k item is found = λ own.
     above_none (takes (calls_at p (history_of s n D))) k (settles_of s n p D) before.low (next ∙ ap (λ (r : ℕ). takes (calls_at r (history_of s n D)) + 1) (eqb-true q p own))
 
 -- a deed that is no Settle
-other_once : (s n : ℕ) (limits : Limits) (p : ℕ) (deed : Deed) (D : List Deed) → IsRightDeed s n limits deed D → is_settle deed ≡ false → SettledOnce s n p D → SettledOnce s n p (deed ∷ D)
-other_once s n limits p deed D right none before =
-    let same = settles_same s n p deed D none in
+other_once : (s n : ℕ) (limits : Limits) (p : ℕ) (deed : Deed) (D : List Deed) → number p (deed ∷ D) ≡ number p D → IsRightDeed s n limits deed D → is_settle deed ≡ false → SettledOnce s n p D → SettledOnce s n p (deed ∷ D)
+other_once s n limits p deed D stays right none before =
+    let same = settles_same s n p deed D stays none in
     record {
       over = subst (λ ks. AllByRecursion (IsOver p ks) (work s n (deed ∷ D)).waiting) (sym same) (waits_more (IsOver p (settles_of s n p D)) s n deed D (over_kept s n p (deed ∷ D) (settles_of s n p D)) (λ q k item is found some. new_over s n limits p deed D right before q k item is found) before.over);
       low = subst (AllByRecursion (λ k. k ≤ takes (calls_at p (history_of s n (deed ∷ D))))) (sym same) (low_later s n p deed D (settles_of s n p D) before.low);
@@ -345,4 +346,4 @@ settled_once s n limits p [] right = record { over = tt; low = tt; once = tt }
 settled_once s n limits p (did.Settle q k ∷ D) right =
     let told = settled_message s n limits q k D right in
     settle_once s n limits p q k D right (settled_once s n limits p D right.1) (is_peer s n q && q == p) (λ both. eqb-true q p (and_parts _ _ both).1) (settles_now s n p q k D told.0 told.4)
-settled_once s n limits p (deed ∷ D) right = other_once s n limits p deed D right.0 refl (settled_once s n limits p D right.1)
+settled_once s n limits p (deed ∷ D) right = other_once s n limits p deed D refl right.0 refl (settled_once s n limits p D right.1)

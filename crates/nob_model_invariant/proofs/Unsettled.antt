@@ -13,16 +13,15 @@ use Rattle.nob_model_types.specs.declared.deed.Deed.{Deed}
 use Rattle.nob_model_types.specs.Sessions.{closed, number}
 use Rattle.nob_model_history.specs.declared.transit.SentItem.{SentItem}
 use Rattle.nob_model_history.specs.Transit.{is_sent_to, is_some_of, is_settled, is_pinned, has_bundle, sent}
-use Rattle.nob_model_journal.specs.Journals.{deeds_at, history_at, closed_at, number_at, sent_now, acted_from}
+use Rattle.nob_model_journal.specs.Journals.{deeds_at, history_at, closed_at, number_at, sent_to, acted_in, acted_from}
 use Rattle.nob_model_journal.specs.Runs.{WorldRun}
 use Rattle.nob_model_invariant.specs.Typed.{AreOfTypes}
 use Rattle.nob_model_invariant.specs.Asking.{items_among}
 use Rattle.nob_model_invariant.specs.Settles.{settles_among, settle_in, AreOnce, IsCarrying}
 use Rattle.nob_model_holdings.proofs.Lists.{all_split, place_in_whole, some_same}
 use Rattle.nob_model_invariant.proofs.Listings.{items_split}
-use Rattle.nob_model_invariant.proofs.Order.{ActsNow, in_order_now}
+use Rattle.nob_model_invariant.proofs.Order.{ActsNow, in_order, in_order_now}
 use Rattle.nob_model_invariant.proofs.Places.{IsNext, rest_next}
-use Rattle.nob_model_invariant.proofs.OneSession.{numbers_alike, sent_alike}
 use Rattle.nob_model_invariant.proofs.SafetyPoints.{settlements}
 use Rattle.nob_model_invariant.proofs.Bundles.{never_twice, settled_in}
 use Rattle.nob_model_invariant.proofs.Sent.{IsSentAs, sent_as}
@@ -52,31 +51,32 @@ pinned_by : (b k : ℕ) (D : List Deed) (one : SentItem) → one.to ≡ b → on
 pinned_by b k D one to session is some unsettled up =
     and_from _ _ (and_from _ _ (and_from _ _ some (eq-eqb one.session (number one.to D) (session ∙ ap (λ (p : ℕ). number p D) (sym to)))) (not_from_false _ (ap (λ (p : ℕ). is_settled p one.number D) to ∙ ap (λ (j : ℕ). is_settled b j D) is ∙ unsettled))) (not_from_false _ (ap (λ (p : ℕ). closed p D) to ∙ up))
 
--- what was settled, and what is settled by a Settle that comes next and behind it, is all that b settled in its session
-settles_split : (n a b k : ℕ) (J : List Entry) (begins : ActsNow n b a J) (rest : List (ℕ × Option Item)) → begins.0 ≡ (1 + length (acted_from b a J), Some (items.Settle k)) ∷ rest → settles_among (items_among (acted_from b a J)) ++ k ∷ settles_among (items_among rest) ≡ settles_among (sent_now n b a J)
+-- what was settled, and what is settled by a Settle that comes next and behind it, is all that b settled in the session in which a is
+settles_split : (n a b k : ℕ) (J : List Entry) (begins : ActsNow n b a J) (rest : List (ℕ × Option Item)) → begins.0 ≡ (1 + length (acted_from b a J), Some (items.Settle k)) ∷ rest → settles_among (items_among (acted_from b a J)) ++ k ∷ settles_among (items_among rest) ≡ settles_among (sent_to n b a J)
 settles_split n a b k J begins rest is =
     let heard : List Item = items_among (acted_from b a J) in
     let behind : settles_among heard ++ k ∷ settles_among (items_among rest) ≡ settles_among heard ++ settles_among (items_among begins.0) = ap (λ pairs. settles_among heard ++ settles_among (items_among pairs)) (sym is) in
     let joined : settles_among heard ++ settles_among (items_among begins.0) ≡ settles_among (heard ++ items_among begins.0) = sym (filter_map-append settle_in heard (items_among begins.0)) in
-    let all : settles_among (heard ++ items_among begins.0) ≡ settles_among (sent_now n b a J) = ap settles_among (items_split n b a J begins ∙ sym (sent_alike n b a J)) in
+    let all : settles_among (heard ++ items_among begins.0) ≡ settles_among (sent_to n b a J) = ap settles_among (items_split n b a J begins) in
     behind ∙ joined ∙ all
 
 -- a Settle that comes next on a session that is open here is of a bundle
 pub settle_bundle : (n a b k : ℕ) (limits : ℕ → Limits) (J : List Entry) → WorldRun n limits J → AreOfTypes J → closed_at a b J ≡ false → IsNext n b a (items.Settle k) J → has_bundle b k (history_at a n J) ≡ true
 settle_bundle n a b k limits J run typed up next =
+    let session : ℕ = number_at a b J in
     let begins = in_order_now n limits J run typed b a in
     let rest = rest_next n b a (items.Settle k) J begins next in
     let ks : List ℕ = settles_among (items_among (acted_from b a J)) in
     let more : List ℕ = settles_among (items_among rest.0) in
-    let split : ks ++ k ∷ more ≡ settles_among (sent_now n b a J) = settles_split n a b k J begins rest.0 rest.1 in
+    let split : ks ++ k ∷ more ≡ settles_among (sent_to n b a J) = settles_split n a b k J begins rest.0 rest.1 in
     let points = settlements n limits J run in
-    let once : AreOnce (ks ++ k ∷ more) = subst AreOnce (sym split) (points.once a b) in
-    let carry : IsCarrying (acted_from a b J) k = (all_split (IsCarrying (acted_from a b J)) ks (k ∷ more) (subst (AllByRecursion (IsCarrying (acted_from a b J))) (sym split) (points.carried a b))).1.0 in
+    let once : AreOnce (ks ++ k ∷ more) = subst AreOnce (sym split) (points.once a b session) in
+    let carry : IsCarrying (acted_in a b session J) k = (all_split (IsCarrying (acted_in a b session J)) ks (k ∷ more) (subst (AllByRecursion (IsCarrying (acted_in a b session J))) (sym split) (points.carried a b session))).1.0 in
     let unsettled : is_settled b k (deeds_at a J) ≡ false = false_from_ne_true _ (λ settled. never_twice ks more k once (settled_in b k (deeds_at a J) settled)) in
-    let order = in_order_now n limits J run typed a b in
-    let its : IsSentAs n a b (number_at b a J) k carry.0 J = sent_as n a b (number_at b a J) k carry.0 J (place_in_whole (acted_from a b J) order.0 _ (k - 1) (k, Some carry.0) order.1 carry.1) in
+    let order = in_order n limits J run typed a b session in
+    let its : IsSentAs n a b session k carry.0 J = sent_as n a b session k carry.0 J (place_in_whole (acted_in a b session J) order.0 _ (k - 1) (k, Some carry.0) order.1 carry.1) in
     let one : SentItem = its.one in
     let all : List SentItem = sent (history_at a n J) in
-    some_passes (is_sent_to b (number_at b a J)) (is_pinned (deeds_at a J)) (λ (o : SentItem). o.to == b && o.number == k) all (k - 1) one its.place
-    (pinned_by b k (deeds_at a J) one its.to (its.of_session ∙ sym (numbers_alike a b J)) its.number (ap (λ (i : Item). is_some_of (counted_in i)) its.same ∙ carry.2) unsettled up)
-    (and_from _ _ (eq-eqb one.to b its.to) (eq-eqb one.number k its.number))
+    some_passes (is_sent_to b session) (is_pinned (deeds_at a J)) (λ (o : SentItem). o.to == b && o.number == k) all (k - 1) one its.place
+    (pinned_by b k (deeds_at a J) one its.to its.of_session its.number (ap (λ (i : Item). is_some_of (counted_in i)) its.same ∙ carry.2) unsettled up)
+    (and_from (one.to == b) (one.number == k) (eq-eqb one.to b its.to) (eq-eqb one.number k its.number))

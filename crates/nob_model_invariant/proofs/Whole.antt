@@ -13,6 +13,7 @@ use Rattle.nob_model_invariant.proofs.Naming.{names}
 use Rattle.nob_model_invariant.proofs.Listings.{listings}
 use Rattle.nob_model_invariant.proofs.Guarding.{guarded_law}
 use Rattle.nob_model_invariant.proofs.Answering.{answers_law}
+use Rattle.nob_model_invariant.proofs.Numbers.{numbers}
 use Rattle.nob_model_invariant.proofs.Points as losses
 use Rattle.nob_model_invariant.specs.Invariant.{Loans}
 use Rattle.nob_model_invariant.specs.Laws.{InvariantLaw}
@@ -42,5 +43,6 @@ invariant n limits J run typed = record {
   settled = losses.settled n limits J run;
   waiting = losses.waiting n limits J run;
   denials = losses.denials n limits J run;
+  numbers = numbers n limits J run typed;
   copies = losses.copied n limits J run typed;
 }

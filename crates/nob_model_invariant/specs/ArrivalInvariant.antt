@@ -1,6 +1,6 @@
 -- What is true of what comes next in every run of a world: one record a theme, each of a journal J and the number n of
 -- spaces.
-use Rattle.std.specs.Prelude.{◌≡◌, ◌≢◌, ◌≤◌, ◌⊎◌, ℕ, ◌+◌, true, false, List}
+use Rattle.std.specs.Prelude.{◌≡◌, ◌≢◌, ◌≤◌, ◌<◌, ◌⊎◌, ℕ, ◌+◌, true, false, List}
 use Rattle.std.specs.List.{list_any}
 use Rattle.nob_model_types.specs.declared.entry.Entry.{Entry}
 use Rattle.nob_model_types.specs.Messages.{replies_to}
@@ -16,6 +16,8 @@ use Rattle.nob_model_invariant.specs.Counting.{count_of, makes_call, calls_outst
 -- comes while the client is entered for that, and no Dirty or Clean for it is under way before
 pub record Guarded (n : ℕ) (J : List Entry) : Type 0 where
   pub guarded : (c o x : ℕ) → c ≢ o → AreGuarded o x (is_entered o x c (deeds_at o J)) (under_way n c o J)
+  -- and what a client sent in a session to which the owner hasn't come needs none of its objects
+  pub ahead : (c o x session : ℕ) → c ≢ o → number_at o c J < session → AreGuarded o x false (sent_in n c o session J)
 
 -- client c and owner o keep to Calls and Replies
 pub record Answers (n : ℕ) (J : List Entry) : Type 0 where

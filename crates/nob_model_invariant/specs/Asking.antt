@@ -9,7 +9,7 @@ use Rattle.nob_model_types.specs.declared.turns.OwnerAnswer.TheVariants as said
 use Rattle.nob_model_types.specs.declared.turns.Turns.{Turns}
 use Rattle.nob_ids.specs.declared.wire_rep.WireRep.{WireRep}
 use Rattle.nob_model_types.specs.declared.entry.Entry.{Entry}
-use Rattle.nob_model_journal.specs.Journals.{sent_now, acted_from}
+use Rattle.nob_model_journal.specs.Journals.{number_at, sent_in, sent_now, acted_from}
 
 -- what an item asks for the object of an index: true for a Dirty, false for a Clean
 abbrev pub ask_in : ℕ → Item → Option Bool
@@ -110,6 +110,14 @@ heard c rep J = answers_among rep.index (items_among (acted_from rep.owner c J))
 abbrev pub was_asked : (o c x : ℕ) → List Entry → List Bool
 was_asked o c x J = asks_among x (items_among (acted_from c o J))
 
--- what owner o sent to answer client c for an index in the session in which o is
+-- what owner o sent to answer client c for an index in a session
+abbrev pub gave_in : (n o c x session : ℕ) → List Entry → List Bool
+gave_in n o c x session J = answers_among x (sent_in n o c session J)
+
+-- what it did in the session in which it is
 abbrev pub gave : (n o c x : ℕ) → List Entry → List Bool
-gave n o c x J = answers_among x (sent_now n o c J)
+gave n o c x J = gave_in n o c x (number_at o c J) J
+
+-- and in the one in which the client is
+abbrev pub gave_to : (n o c x : ℕ) → List Entry → List Bool
+gave_to n o c x J = gave_in n o c x (number_at c o J) J

@@ -10,7 +10,7 @@ use Rattle.nob_model_work.specs.Work.{work}
 use Rattle.nob_model_journal.specs.Journals.{deeds_at}
 use Rattle.nob_model_invariant.specs.SafetyInvariant.{Sessions, Clients, Owners, Names, Listings, Holdings, Living, Settlements, Readings}
 use Rattle.nob_model_invariant.specs.ArrivalInvariant.{Guarded, Answers}
-use Rattle.nob_model_invariant.specs.LossInvariant.{Settled, Waiting, Denials, Copies}
+use Rattle.nob_model_invariant.specs.LossInvariant.{Settled, Waiting, Denials, Numbers, Copies}
 
 -- all references that a message carries are lent
 abbrev pub IsAllLent : Message → Type 0
@@ -39,4 +39,5 @@ pub record Invariant (n : ℕ) (J : List Entry) : Type 0 where
   pub settled : Settled n J
   pub waiting : Waiting n J
   pub denials : Denials n J
+  pub numbers : Numbers n J
   pub copies : Copies n J

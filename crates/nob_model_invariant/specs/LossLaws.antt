@@ -5,7 +5,7 @@ use Rattle.nob_model_types.specs.declared.entry.Entry.{Entry}
 use Rattle.nob_model_journal.specs.Runs.{WorldRun}
 use Rattle.nob_model_journal.specs.Losses.{NoFalseLoss}
 use Rattle.nob_model_invariant.specs.Typed.{AreOfTypes}
-use Rattle.nob_model_invariant.specs.LossInvariant.{Settled, Waiting, Denials, Copies}
+use Rattle.nob_model_invariant.specs.LossInvariant.{Settled, Waiting, Denials, Numbers, Copies}
 use Rattle.nob_model_invariant.specs.Leaks.{NoLeak}
 
 -- in every run of a world what was acted on is settled, or its message waits
@@ -19,6 +19,10 @@ WaitingLaw = (n : ℕ) (limits : ℕ → Limits) (J : List Entry) → WorldRun n
 -- in every run of a world all copies of what an owner denied are settled
 abbrev pub DenialsLaw : Type 0
 DenialsLaw = (n : ℕ) (limits : ℕ → Limits) (J : List Entry) → WorldRun n limits J → Denials n J
+
+-- in every run of a world the sessions of copies aren't above the ones in which the spaces are
+abbrev pub NumbersLaw : Type 0
+NumbersLaw = (n : ℕ) (limits : ℕ → Limits) (J : List Entry) → WorldRun n limits J → AreOfTypes J → Numbers n J
 
 -- in every run of a world the copies of a reference wait while it is pending, and are excused where it is refused
 abbrev pub CopiesLaw : Type 0

@@ -26,8 +26,8 @@ use Rattle.nob_model_work.specs.Work.{work}
 use Rattle.nob_model.specs.Right.{own_ref}
 use Rattle.nob_model_invariant.specs.Settles.{settles_among, is_in, AreOnce, IsCarrying}
 use Rattle.nob_model_invariant.specs.Naming.{NamesExported}
-use Rattle.nob_model_invariant.specs.Asking.{asked, heard, was_asked, gave, turns_by, has_no, last_or, last_word, AskedInTurn, AnsweredInTurn}
-use Rattle.nob_model_journal.specs.Journals.{deeds_at, closed_at, history_at, number_at, are_in_one, sent_in, sent_now, sent_to, acted_from, transmitted_frames}
+use Rattle.nob_model_invariant.specs.Asking.{asked, heard, was_asked, gave_in, gave, turns_by, has_no, last_or, last_word, AskedInTurn, AnsweredInTurn}
+use Rattle.nob_model_journal.specs.Journals.{deeds_at, closed_at, history_at, number_at, are_in_one, sent_in, sent_now, sent_to, acted_in, transmitted_frames}
 use Rattle.nob_model_journal.specs.Fronts.{ActsInOrder}
 
 -- a frame as an end gave it: it is of the end's session, acknowledges no more than the end accepted, and a Data frame carries the transmitted payload of its number
@@ -64,8 +64,8 @@ pub record Clients (n : ℕ) (J : List Entry) : Type 0 where
 pub record Owners (n : ℕ) (J : List Entry) : Type 0 where
   -- each Dirty once
   pub answered : (o c x : ℕ) → AnsweredInTurn (was_asked o c x J) (gave n o c x J)
-  -- a DirtyNo was of an object that was exported and isn't live any more
-  pub denied : (o c x : ℕ) → has_no (gave n o c x J) ≡ true → (is_exported o x (deeds_at o J) ≡ true) × (is_live o x (deeds_at o J) ≡ false)
+  -- a DirtyNo, in whatever session, was of an object that was exported and isn't live any more
+  pub denied : (o c x session : ℕ) → has_no (gave_in n o c x session J) ≡ true → (is_exported o x (deeds_at o J) ≡ true) × (is_live o x (deeds_at o J) ≡ false)
   -- a client is entered for an index exactly where it asked last by a Dirty and was answered last by DirtyOk
   pub entered : (o c x : ℕ) → is_entered o x c (deeds_at o J) ≡ (last_or false (was_asked o c x J) && is_yes (last_word said.Pending (gave n o c x J)))
 
@@ -91,11 +91,11 @@ is_bad_item _ = false
 pub record Readings (n : ℕ) (J : List Entry) : Type 0 where
   pub none_bad : AllByRecursion (λ entry. is_bad_item entry.result ≡ false) J
 
--- what came to b from a in the session in which b is, it settles once: no item twice, each was acted on before and carries counted references, and none whose message waits
+-- what came to b from a it settles once: in each session no item twice, each was acted on before and carries counted references, and in the one in which b is none whose message waits
 pub record Settlements (n : ℕ) (J : List Entry) : Type 0 where
-  pub once : (a b : ℕ) → AreOnce (settles_among (sent_now n b a J))
-  pub were_acted : (a b : ℕ) → AllByRecursion (λ k. k ≤ length (acted_from a b J)) (settles_among (sent_now n b a J))
-  pub carried : (a b : ℕ) → AllByRecursion (IsCarrying (acted_from a b J)) (settles_among (sent_now n b a J))
+  pub once : (a b session : ℕ) → AreOnce (settles_among (sent_in n b a session J))
+  pub were_acted : (a b session : ℕ) → AllByRecursion (λ k. k ≤ length (acted_in a b session J)) (settles_among (sent_in n b a session J))
+  pub carried : (a b session : ℕ) → AllByRecursion (IsCarrying (acted_in a b session J)) (settles_among (sent_in n b a session J))
   pub none_waits : (a b : ℕ) → AllByRecursion (λ message. (message.from == a) ≡ true → is_in message.number (settles_among (sent_now n b a J)) ≡ false) (work b n (deeds_at b J)).waiting
 
 -- what an owner holds of its own, what has pins there and what anyone is listed for is live

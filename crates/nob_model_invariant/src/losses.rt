@@ -1,6 +1,6 @@
 //! Laws over the definitions: each is the contract of a function that does nothing.
 
-ghost use Rattle.nob_model_invariant.specs.LossLaws.{CopiesLaw, DenialsLaw, LeaksLaw, LossesLaw, SettledLaw, WaitingLaw};
+ghost use Rattle.nob_model_invariant.specs.LossLaws.{CopiesLaw, DenialsLaw, LeaksLaw, LossesLaw, NumbersLaw, SettledLaw, WaitingLaw};
 
 /// In every run of a world each item that carries counted references and was acted on in the present
 /// session is settled, unless its message still waits or the session with its sender closed there.
@@ -16,11 +16,20 @@ pub fn waiting()
     ensures { WaitingLaw }
 {}
 
-/// In every run of a world, where an owner answered a client by DirtyNo, all that it sent that
-/// client in their session with a reference to the object is settled.
+/// In every run of a world, where an owner answered a client by DirtyNo in a session, all that it
+/// sent that client in it with a reference to the object is settled by what it acted on in it.
 #[tactic(auto, using(crate::proofs::Points::denials))]
 pub fn denials()
     ensures { DenialsLaw }
+{}
+
+/// In every run of a world the session in which a copy was sent and came isn't above the ones in
+/// which its sender and its receiver are, nor the one with the owner in which it was sent above those
+/// in which its sender and the owner are. Asked of the run: what each Call and Finish handed on is of
+/// its types.
+#[tactic(auto, using(crate::proofs::Numbers::numbers))]
+pub fn numbers()
+    ensures { NumbersLaw }
 {}
 
 /// In every run of a world, of the copies of a reference that a space acted on since it last gave

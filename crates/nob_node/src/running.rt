@@ -13,8 +13,8 @@ use nob_dispatch_lanes::LaneTake;
 use nob_dispatch_objects::Object;
 use nob_keeper::{Keep, Keeper, KeeperError, Record, Seat};
 use nob_node_site::{
-    Config, Crew, Desk, Ends, Errand, Gate, Hand, Inbox, Kept, Left, Outbox, Parts, Place, Return,
-    Shelf, Site, run_crew, site_of,
+    Config, Crew, Desk, Ends, Errand, Gate, Hand, Inbox, Kept, Left, Outbox, Parts, Place,
+    Remaining, Return, Shelf, Site, run_crew, site_of,
 };
 use std::alloc::Global;
 use std::sync::{Mutex, Wait};
@@ -133,7 +133,8 @@ fn run_app<B: Object, R: Wait, A: App<B>>(
 
 // What is left of a desk. Nothing more is given to the workers.
 fn rest_of<B: Object>(desk: Desk<Kept<B>>) -> Rest<B> {
-    let (seat, shelf, _jobs, _errands, returns) = desk.end();
+    let (left, _unsent, _errands, returns) = desk.end();
+    let Remaining { seat, shelf, .. } = left;
     Rest {
         seat,
         shelf,
@@ -260,8 +261,11 @@ fn end_pool<B: Object, R: Wait>(
     } = rest;
     keep(seats, seat);
     for hand in hands {
-        let (seat, mut errands, _returns) = hand.end();
+        let (seat, errand, mut errands, _returns) = hand.end();
         keep(seats, seat);
+        if let Some(errand) = errand {
+            put_back(errand, &mut shelf);
+        }
         take_unserved(rt, &mut errands, &mut shelf);
     }
     take_returned(rt, &mut returns, &mut shelf);
@@ -278,9 +282,14 @@ fn take_unserved<B: Object, R: Wait>(
         let Some(errand) = errands.try_get_as(rt) else {
             return;
         };
-        let Errand { job, object } = errand;
-        let _ = shelf.give_back(job.target, object);
+        put_back(errand, shelf);
     }
+}
+
+// The object of an errand comes back.
+fn put_back<B: Object>(errand: Errand<Kept<B>>, shelf: &mut Shelf<Kept<B>>) {
+    let Errand { job, object } = errand;
+    let _ = shelf.give_back(job.target, object);
 }
 
 // The objects that were given back come back.

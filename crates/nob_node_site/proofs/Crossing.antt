@@ -16,7 +16,6 @@ use Rattle.nob_agents.specs.contracts.way.Way as Way
 use Rattle.nob_dispatch.proofs.Crossing.{desk_send, hand_send}
 use Rattle.nob_dispatch.specs.contracts.desk.Desk as Desk
 use Rattle.nob_dispatch.specs.contracts.hand.Hand as Hand
-use Rattle.nob_dispatch_objects.specs.declared.object.Object as Object
 use Rattle.nob_keeper.proofs.Crossing.{kept_send as account_send, seat_send}
 use Rattle.nob_keeper.specs.contracts.held.Held as Held
 use Rattle.nob_keeper.specs.contracts.keeper.Keeper as Keeper
@@ -71,24 +70,24 @@ keeper_field_sync = struct_sync (shape Keeper.the_type) (
 )
 
 -- what the threads of a node share and have, where the object may cross
-module _ (B : RattleType) (g : Object.Ghosts B.Denot) (crossing : IsSend B) where
+module _ (B : RattleType) (crossing : IsSend B) where
   pub kept_send : IsSend (Kept.the_row B)
   kept_send = kept.the_send B crossing
 
-  pub hand_of_node_send : (k : Object.Ghosts (Kept.the_row B).Denot) → IsSend (Hand.the_row (Kept.the_row B) k)
-  hand_of_node_send k = hand_send (Kept.the_row B) k kept_send
+  pub hand_of_node_send : IsSend (Hand.the_row (Kept.the_row B))
+  hand_of_node_send = hand_send (Kept.the_row B) kept_send
 
-  pub desk_of_node_send : (k : Object.Ghosts (Kept.the_row B).Denot) → IsSend (Desk.the_row (Kept.the_row B) k)
-  desk_of_node_send k = desk_send (Kept.the_row B) k kept_send
+  pub desk_of_node_send : IsSend (Desk.the_row (Kept.the_row B))
+  desk_of_node_send = desk_send (Kept.the_row B) kept_send
 
-  pub site_sync : IsSync (Site.the_row B g)
+  pub site_sync : IsSync (Site.the_row B)
   site_sync =
-      let T = Site.the_type B g in
+      let T = Site.the_type B in
       recorded_sync (Struct (shape T)) T.D T.to T.to_one (struct_sync (shape T)
       (keeper_field_sync, (search (outbox_field_send, crosses, sendable) depth 60 fits 20000, (search (crosses, sendable) depth 60 fits 20000, (search (desk_of_node_send, crosses, sendable) depth 60 fits 20000, (condvar_sync, (search (crosses, sendable) depth 60 fits 20000, (search (crosses, sendable) depth 60 fits 20000, (condvar_sync, (search (crosses, sendable) depth 60 fits 20000, (search (inbox_send, crosses, sendable) depth 60 fits 20000, (search (crosses, sendable) depth 60 fits 20000, (search (crosses, sendable) depth 60 fits 20000, (search (carer_field_send, crosses, sendable) depth 60 fits 20000, (search (crosses, sendable) depth 60 fits 20000, (search (crosses, sendable) depth 60 fits 20000, (search (crosses, sendable) depth 60 fits 20000, (search (crosses, sendable) depth 60 fits 20000, (search (crosses, sendable) depth 60 fits 20000, (search (crosses, sendable) depth 60 fits 20000, (search (crosses, sendable) depth 60 fits 20000, (search (crosses, sendable) depth 60 fits 20000, (search (crosses, sendable) depth 60 fits 20000, (search (crosses, sendable) depth 60 fits 20000, tt))))))))))))))))))))))))
 
-  pub crew_send : IsSend (Crew.the_row B g)
+  pub crew_send : IsSend (Crew.the_row B)
   crew_send =
-      let T = Crew.the_type B g in
+      let T = Crew.the_type B in
       recorded_send (Struct (shape T)) T.D T.to T.to_one (struct_send (shape T)
       (search (hand_of_node_send, crosses, sendable) depth 60 fits 20000, (Vec-send Seat.the_row seat_send, tt)))

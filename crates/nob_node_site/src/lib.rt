@@ -13,6 +13,8 @@ pub use crew::{Crew, run_crew};
 pub use inbox::Inbox;
 pub use making::site_of;
 pub use nob_agents::Calls;
-pub use nob_dispatch::{Desk, Errand, Gate, Hand, JobCalls, OpenGate, Place, Return, Shelf};
+pub use nob_dispatch::{
+    Desk, Errand, Gate, Hand, JobCalls, OpenGate, Place, Remaining, Return, Shelf,
+};
 pub use nob_node_parts::{Kept, Left, Outbox, Pulse};
 pub use site::{Parts, Site};

@@ -13,7 +13,7 @@ use crate::inbox::Inbox;
 use crate::site::Site;
 use nob_agents::{Carer, Sender, Taker, Way};
 use nob_dispatch::{Desk, Errand, Hand, Return};
-use nob_dispatch_lanes::{LanePut, LaneTake, Numbered, lane};
+use nob_dispatch_lanes::{LanePut, LaneTake, lane};
 use nob_dispatch_objects::{Agent, Object};
 use nob_ids::SpaceId;
 use nob_keeper::{Keeper, Space};
@@ -117,7 +117,7 @@ fn add_hands<B: Object>(
 }
 
 // Takes the first of unused ends that get.
-fn first_getter<T: Numbered + Drop>(ends: &mut Vec<LaneTake<T>>) -> LaneTake<T>
+fn first_getter<T: Drop>(ends: &mut Vec<LaneTake<T>>) -> LaneTake<T>
     requires some { 0 < length ends.old.items }
     requires unused { all_got ends.old.items ≡ [] }
     ensures first { got_by result.pass ≡ [] }
@@ -128,7 +128,7 @@ fn first_getter<T: Numbered + Drop>(ends: &mut Vec<LaneTake<T>>) -> LaneTake<T>
 }
 
 // Takes the first of unused ends that give.
-fn first_giver<T: Numbered + Drop>(ends: &mut Vec<LanePut<T>>) -> LanePut<T>
+fn first_giver<T: Drop>(ends: &mut Vec<LanePut<T>>) -> LanePut<T>
     requires some { 0 < length ends.old.items }
     requires unused { all_given ends.old.items ≡ [] }
     ensures first { given_by result.pass ≡ [] }

@@ -132,7 +132,7 @@ impl Staff {
             ..
         } = self;
         seats.push(seat).ok()?;
-        seats.push(dispatcher.end().0).ok()?;
+        seats.push(dispatcher.end().seat).ok()?;
         seats.push(first.end().0).ok()?;
         seats.push(second.end().0).ok()
     }

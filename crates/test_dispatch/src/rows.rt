@@ -18,6 +18,9 @@ const ROUNDS: u32 = 40;
 /// object looked for in the second.
 const TURNS: u32 = 5;
 
+/// In so many turns a dispatcher claims a job, keeps it, since its object is away, and claims another.
+const TURNS_TO_CLAIM: u32 = 3;
+
 /// More calls than a session has room for.
 const MOST_CALLS: u32 = 5000;
 
@@ -123,8 +126,7 @@ impl Both {
             told.push(reply(rt, other, &mut self.theirs, "put", call)?)
                 .ok()?;
         }
-        self.two_objects(rt, one, other, &mut told)?;
-        self.nested(rt, one, other, &mut told)?;
+        self.objects(rt, one, other, &mut told)?;
         for (row, index, method) in [
             ("fault", 3, 0),
             ("answer of an object that isn't there", 3, 1),
@@ -166,6 +168,59 @@ impl Both {
                 .keeper
                 .call(rt, &mut theirs.seat, &Event::Export, 0)
                 .ok()?;
+        }
+        Some(())
+    }
+
+    // Calls of more than one object.
+    fn objects<R: Wait>(
+        &mut self,
+        rt: &R,
+        one: &Polled,
+        other: &Polled,
+        told: &mut Vec<Told>,
+    ) -> Option<()> {
+        self.two_objects(rt, one, other, told)?;
+        self.nested(rt, one, other, told)?;
+        self.object_gone(rt, one, other, told)
+    }
+
+    // A job waits for its object, another job is claimed, and then the object is taken out: the first
+    // job is ended, and the other is handed on all the same.
+    fn object_gone<R: Wait>(
+        &mut self,
+        rt: &R,
+        one: &Polled,
+        other: &Polled,
+        told: &mut Vec<Told>,
+    ) -> Option<()> {
+        let lent = self.theirs.dispatcher.lend(1)?;
+        let first = ask(rt, one, &mut self.ours, reference(2, 1)?, 0, Value::Unit)?;
+        let second = ask(rt, one, &mut self.ours, reference(2, 3)?, 0, Value::Unit)?;
+        relay(rt, one, &mut self.ours, other, &mut self.theirs)?;
+        self.act_all(rt, other)?;
+        for _ in 0..TURNS_TO_CLAIM {
+            drop(self.theirs.dispatcher.turn(rt, other).ok()?);
+        }
+        drop(self.theirs.dispatcher.remove(1));
+        drop(lent);
+        self.rounds(rt, one, other)?;
+        for (row, call) in [
+            ("job whose object was taken out", first),
+            ("job that was claimed before that", second),
+        ] {
+            told.push(reply(rt, one, &mut self.ours, row, call)?).ok()?;
+        }
+        Some(())
+    }
+
+    // What has arrived at the second space is acted on.
+    fn act_all<R: Wait>(&mut self, rt: &R, other: &Polled) -> Option<()> {
+        for _ in 0..ROUNDS {
+            if other.keeper.work(rt).act.iter().any(|act| *act) {
+                let act = Event::Act(self.theirs.peer);
+                other.keeper.call(rt, &mut self.theirs.seat, &act, 0).ok()?;
+            }
         }
         Some(())
     }

@@ -9,7 +9,6 @@ use Rattle.nob_dispatch.specs.contracts.desk.Desk as Desk
 use Rattle.nob_dispatch.specs.contracts.hand.Hand as Hand
 use Rattle.nob_dispatch_jobs.proofs.shelf.Shelf.TheSendSync as shelf
 use Rattle.nob_dispatch_jobs.specs.contracts.shelf.Shelf as Shelf
-use Rattle.nob_dispatch_objects.specs.declared.object.Object as Object
 use Rattle.nob_keeper.proofs.Crossing.{kept_send, seat_send}
 use Rattle.nob_keeper.specs.contracts.held.Held as Held
 use Rattle.nob_keeper.specs.contracts.keeper.Keeper as Keeper
@@ -20,11 +19,11 @@ use Rattle.test_pool.specs.contracts.threads.Post as Post
 use Rattle.test_pool.specs.contracts.threads.Task as Task
 use Rattle.test_pool.specs.contracts.threads.Way as Way
 
-desk_of_things_send : (k : Object.Ghosts (Thing.the_row).Denot) → IsSend (Desk.the_row Thing.the_row k)
-desk_of_things_send k = desk_send Thing.the_row k thing.the_send
+desk_of_things_send : IsSend (Desk.the_row Thing.the_row)
+desk_of_things_send = desk_send Thing.the_row thing.the_send
 
-hand_of_things_send : (k : Object.Ghosts (Thing.the_row).Denot) → IsSend (Hand.the_row Thing.the_row k)
-hand_of_things_send k = hand_send Thing.the_row k thing.the_send
+hand_of_things_send : IsSend (Hand.the_row Thing.the_row)
+hand_of_things_send = hand_send Thing.the_row thing.the_send
 
 shelf_of_things_send : IsSend (Shelf.the_row Thing.the_row)
 shelf_of_things_send = shelf.the_send Thing.the_row thing.the_send

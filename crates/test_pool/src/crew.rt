@@ -9,7 +9,7 @@ use crate::objects::{Holder, Odd, Thing};
 use crate::site::Side;
 use crate::threads::{Post, Task, Way};
 use nob_dispatch::{Desk, Errand, Hand, Return};
-use nob_dispatch_lanes::{LanePut, LaneTake, Numbered, lane};
+use nob_dispatch_lanes::{LanePut, LaneTake, lane};
 use nob_dispatch_objects::Agent;
 use nob_keeper::Keeper;
 use std::alloc::Global;
@@ -131,7 +131,7 @@ fn add_hands(
 }
 
 // Takes the first of unused ends that get.
-fn first_getter<T: Numbered + Drop>(ends: &mut Vec<LaneTake<T>>) -> LaneTake<T>
+fn first_getter<T: Drop>(ends: &mut Vec<LaneTake<T>>) -> LaneTake<T>
     requires some { 0 < length ends.old.items }
     requires unused { all_got ends.old.items ≡ [] }
     ensures first { got_by result.pass ≡ [] }
@@ -142,7 +142,7 @@ fn first_getter<T: Numbered + Drop>(ends: &mut Vec<LaneTake<T>>) -> LaneTake<T>
 }
 
 // Takes the first of unused ends that give.
-fn first_giver<T: Numbered + Drop>(ends: &mut Vec<LanePut<T>>) -> LanePut<T>
+fn first_giver<T: Drop>(ends: &mut Vec<LanePut<T>>) -> LanePut<T>
     requires some { 0 < length ends.old.items }
     requires unused { all_given ends.old.items ≡ [] }
     ensures first { given_by result.pass ≡ [] }

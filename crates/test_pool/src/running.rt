@@ -198,7 +198,7 @@ fn keep(side: Side, task: Task, remains: &mut Remains) -> Option<()> {
         Task::Carry(way) => keep_way(side, way, remains),
         Task::Care(seat) => keep_seat(side, seat, remains),
         Task::Serve(hand) => {
-            let (seat, _errands, _returns) = hand.end();
+            let (seat, _errand, _errands, _returns) = hand.end();
             match side {
                 Side::First => remains.firsts.push(seat).ok(),
                 Side::Second => remains.served.push(seat).ok(),

@@ -2,7 +2,7 @@
 
 use crate::objects::Thing;
 use crate::site::{Side, Site};
-use nob_dispatch::{Assigned, Desk, Hand, Shelf, serve};
+use nob_dispatch::{Assigned, Desk, Hand, Remaining, Shelf, serve};
 use nob_ids::SpaceId;
 use nob_keeper::{Dues, Keeper, KeeperError, Seat, Wake, WorkKind};
 use nob_model_types::{Answer, Event};
@@ -88,7 +88,8 @@ fn left_of<R: Wait>(rt: &R, site: &Site, side: Side, mut desk: Desk<Thing>) -> T
     desk.stop_claiming();
     site.note_stopped(side);
     come_to_rest(rt, keeper, &mut desk);
-    let (seat, shelf, _jobs, _errands, _returns) = desk.end();
+    let (left, _unsent, _errands, _returns) = desk.end();
+    let Remaining { seat, shelf, .. } = left;
     site.note_rested();
     Task::Left(seat, shelf)
 }

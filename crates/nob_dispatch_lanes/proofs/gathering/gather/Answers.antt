@@ -1,5 +1,4 @@
-use Rattle.std.proofs.Common.{arith, map, refl, ap}
-use Rattle.std.proofs.lemmas.List.{length-map}
+use Rattle.std.proofs.Common.{arith, refl, ap}
 use Rattle.nob_dispatch_lanes.specs.declared.rule.Tally.{Tally}
 use Rattle.nob_dispatch_lanes.specs.Balance.{count}
 use Rattle.nob_dispatch_lanes.proofs.Steps.{learns, count_is_length}
@@ -21,9 +20,9 @@ pub learn_as-requires-clause-rule : goal.learn_as-requires-clause-rule
 learn_as-requires-clause-rule g c =
     let put = parted c.args.puts.items c.remove-sender.new.self.items c.remove-sender.result c.requires.puts c.remove-sender.ensures.value c.remove-sender.ensures.items in
     let take = parted c.args.takes.items c.remove-receiver.new.self.items c.remove-receiver.result c.requires.takes c.remove-receiver.ensures.value c.remove-receiver.ensures.items in
-    learns g.T.Numbered.number _ _ (omega (arith, c.join_getters-pass.ensures.parts, c.join-pass.ensures.parts, c.join_givers-pass.ensures.parts, (of_parted _ _ _ _ put take c.requires.ends).all))
+    learns _ _ (omega (arith, c.join_getters-pass.ensures.parts, c.join-pass.ensures.parts, c.join_givers-pass.ensures.parts, (of_parted _ _ _ _ put take c.requires.ends).all))
 
 pub take_rest-requires-clause-room : goal.take_rest-requires-clause-room
 take_rest-requires-clause-room g c =
-    let left = c.learn_as.ensures.rule in let same = c.learn_as.ensures.channel.2 in let numbers = map g.T.Numbered.number left.0 in
-    (c.in-Ok.ensures.items, omega (arith, ap (λ (v : Tally). count v.given) same, ap (λ (v : Tally). count v.got) same, left.1.0 (λ n. 1), left.1.1, count_is_length numbers, length-map left.0 g.T.Numbered.number, c.in-Ok.ensures.capacity))
+    let left = c.learn_as.ensures.rule in let same = c.learn_as.ensures.channel.2 in let rest = left.0 in
+    (c.in-Ok.ensures.items, omega (arith, ap (λ (v : Tally _). count v.given) same, ap (λ (v : Tally _). count v.got) same, left.1.0 (λ n. 1), left.1.1, count_is_length rest, c.in-Ok.ensures.capacity))

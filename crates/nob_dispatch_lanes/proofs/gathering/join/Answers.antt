@@ -2,4 +2,4 @@ use Rattle.nob_dispatch_lanes.proofs.Steps.{merges}
 use Rattle.nob_dispatch_lanes.proofs.gathering.join.Goals as goal
 
 pub absorb-requires-clause-rule : goal.absorb-requires-clause-rule
-absorb-requires-clause-rule g c = merges g.T.Numbered.number _ _ _ _ c.requires.some
+absorb-requires-clause-rule g c = merges _ _ _ _ c.requires.some

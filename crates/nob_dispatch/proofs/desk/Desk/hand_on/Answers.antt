@@ -1,17 +1,41 @@
-use Rattle.std.proofs.Common.{rules, Some, ap, ◌∙◌}
+use Rattle.std.proofs.Common.{rules, Some, inl, inr, length, ap, ◌∙◌}
+use Rattle.nob_dispatch_jobs.specs.declared.dispatcher.Handing.TheVariants as handings
 use Rattle.nob_dispatch_jobs.specs.declared.errand.Errand.{Errand}
-use Rattle.nob_dispatch.specs.Assigning.{Assigning, number_in}
+use Rattle.nob_dispatch.specs.Assigning.{Assigning}
 use Rattle.nob_dispatch.specs.Serving.{given, taken}
-use Rattle.nob_dispatch.proofs.Givings.{given_more, given_none}
+use Rattle.nob_dispatch.proofs.Givings.{given_more, given_none, handed_over, same_handed, counted}
 use Rattle.nob_dispatch.proofs.desk.Desk.hand_on.Goals as goal
 
 pub invariant_of-self-in_default : goal.invariant_of-self-in_default
-invariant_of-self-in_default g c = given_more c.step.new.dispatcher c.in_ok-errand.field-0 c.in-Errand.errand (number_in c.self.inside.unsent) (given c.self.inside.errands) (given c.give_as.new.self) (taken c.self.inside.returns) c.self.inside.away c.in-Errand.is (c.in_ok-errand.ensures.tied _ c.self.invariant.0) (search rules) c.self.invariant.1 (search rules)
+invariant_of-self-in_default g c =
+    let none = ap (λ (a : Assigning _). a.unsent) c.self.view_is ∙ c.requires.unsent in (
+      given_more c.step.new.dispatcher c.in_ok-errand.field-0 c.in-Errand.errand c.self.inside.unsent (given c.self.inside.errands) (given c.give_as.new.self) c.in-Errand.is none (c.in_ok-errand.ensures.tied _ c.self.invariant.0) (search rules),
+      counted (given c.self.inside.errands) (given c.give_as.new.self) c.in-Errand.errand c.self.inside.away (length (taken c.self.inside.returns)) (search rules) c.self.invariant.1,
+      search rules,
+      inl none,
+    )
 
 pub invariant_of-self-in-Errand : goal.invariant_of-self-in-Errand
 invariant_of-self-in-Errand g c =
-    let kept = given_none c.step.new.dispatcher c.in_ok-errand.field-0 c.in-Errand.errand (number_in c.self.inside.unsent) (number_in c.keep_unsent.new.unsent) (given c.self.inside.errands) (given c.give_as.new.self) (taken c.self.inside.returns) c.self.inside.away c.in-Errand.is (ap (λ (a : Assigning _). a.unsent) c.self.view_is ∙ c.requires.unsent) (c.keep_unsent.ensures.unsent ∙ ap (λ (e : Errand _). Some e.job.job) c.in-Err.ensures.answer) c.in-Err.ensures.err (c.in_ok-errand.ensures.tied _ c.self.invariant.0) c.self.invariant.1 (search rules) in
-    (c.keep_unsent.ensures.tied _ kept.0, kept.1, kept.2)
+    let kept = given_none c.step.new.dispatcher c.in_ok-errand.field-0 c.in-Errand.errand c.self.inside.unsent c.keep_unsent.new.unsent (given c.self.inside.errands) (given c.give_as.new.self) c.in-Errand.is (ap (λ (a : Assigning _). a.unsent) c.self.view_is ∙ c.requires.unsent) (c.keep_unsent.ensures.unsent ∙ ap (λ (e : Errand _). Some e.job) c.in-Err.ensures.answer) c.in-Err.ensures.err (c.in_ok-errand.ensures.tied _ c.self.invariant.0) in
+    (c.keep_unsent.ensures.tied _ kept, search rules, c.self.invariant.2, inr c.in-Err.ensures.gone)
 
 pub returns-in_default-clause-given : goal.returns-in_default-clause-given
-returns-in_default-clause-given g c = rw (← c.self.view_is) (c.in-Errand.errand.job.job, c.in_default.ensures.answer)
+returns-in_default-clause-given g c =
+    let over = handed_over c.in_ok-errand.field-0 c.in-Errand.errand c.self.inside.dispatcher.shelf c.step.new.dispatcher.shelf c.in-Errand.is c.in_ok-errand.ensures.object in
+    rw (← c.self.view_is) (c.in-Errand.errand, c.in_default.ensures.answer, over.0, over.1)
+
+pub invariant_of-self : goal.invariant_of-self
+invariant_of-self g c = (c.in_err-errand.ensures.tied _ c.self.invariant.0, c.self.invariant.1, c.self.invariant.2, c.self.invariant.3)
+
+pub invariant_of-self-in-Did : goal.invariant_of-self-in-Did
+invariant_of-self-in-Did g c = (same_handed c.step.new.dispatcher c.in_ok-errand.field-0 handings.Did _ c.in-Did.is (c.in_ok-errand.ensures.tied _ c.self.invariant.0), c.self.invariant.1, c.self.invariant.2, c.self.invariant.3)
+
+pub invariant_of-self-in-Later : goal.invariant_of-self-in-Later
+invariant_of-self-in-Later g c = (same_handed c.step.new.dispatcher c.in_ok-errand.field-0 handings.Later _ c.in-Later.is (c.in_ok-errand.ensures.tied _ c.self.invariant.0), c.self.invariant.1, c.self.invariant.2, c.self.invariant.3)
+
+pub invariant_of-self-then-is_at_rest : goal.invariant_of-self-then-is_at_rest
+invariant_of-self-then-is_at_rest g c = (same_handed c.step.new.dispatcher c.in_ok-errand.field-0 handings.Idle _ c.in-Idle.is (c.in_ok-errand.ensures.tied _ c.self.invariant.0), c.self.invariant.1, c.self.invariant.2, c.self.invariant.3)
+
+pub invariant_of-self-in-Idle-2 : goal.invariant_of-self-in-Idle-2
+invariant_of-self-in-Idle-2 g c = (same_handed c.step.new.dispatcher c.in_ok-errand.field-0 handings.Idle _ c.in-Idle-2.is (c.in_ok-errand.ensures.tied _ c.self.invariant.0), c.self.invariant.1, c.self.invariant.2, c.self.invariant.3)
