@@ -1,5 +1,5 @@
 -- The ledgers have their loans made after each entry.
-use Rattle.std.proofs.Common.{◌≡◌, ℕ, true, false, List, [], ◌∷◌, Option, Some, None, drop, if◌then◌else◌, refl, ap, ◌∙◌}
+use Rattle.std.proofs.Common.{◌≡◌, ℕ, Bool, true, false, List, [], ◌∷◌, Option, Some, None, length, get_or, drop, if◌then◌else◌, refl, sym, ap, true≢false, ◌∙◌}
 use Rattle.std.specs.Prelude.{◌==◌}
 use Rattle.std.specs.List.{list_any}
 use Rattle.std.proofs.lemmas.Bool.{and_parts, and_from}
@@ -17,6 +17,19 @@ use Rattle.nob_check.specs.declared.judging.Judging.{Judging}
 pub rest_lent : (books rest : List Ledger) → rest ≡ drop 1 books → have_loans_made books ≡ true → have_loans_made rest ≡ true
 rest_lent [] rest is lent = ap have_loans_made is
 rest_lent (ledger ∷ books) rest is lent = ap have_loans_made is ∙ (and_parts (has_loans_made ledger) (have_loans_made books) lent).1
+
+-- the first
+pub first_lent : (books : List Ledger) (first : Ledger) (empty : Bool) → empty ≡ false → empty ≡ (length books == 0) → first ≡ get_or books 0 first → have_loans_made books ≡ true → has_loans_made first ≡ true
+first_lent [] first empty full is here lent = absurd (true≢false (sym is ∙ full))
+first_lent (ledger ∷ books) first empty full is here lent = ap has_loans_made here ∙ (and_parts (has_loans_made ledger) (have_loans_made books) lent).0
+
+-- the first is that of the space, and goes on
+pub first_moved : (s : ℕ) (deed : Deed) (books rest : List Ledger) (first after : Ledger) (empty : Bool) → empty ≡ false → empty ≡ (length books == 0) → first ≡ get_or books 0 first → (first.index.here.space == s) ≡ true → after ≡ ledger_after deed first → rest ≡ drop 1 books → after ∷ rest ≡ ledgers_after s deed books
+first_moved s deed [] rest first after empty full is here own one others = absurd (true≢false (sym is ∙ full))
+first_moved s deed (ledger ∷ books) rest first after empty full is here own one others =
+    (λ i. one i ∷ others i)
+    ∙ ap (λ (l : Ledger). ledger_after deed l ∷ books) here
+    ∙ sym (ap (λ (b : Bool). if b then ledger_after deed ledger ∷ books else ledger ∷ ledgers_after s deed books) (sym (ap (λ (l : Ledger). l.index.here.space == s) here) ∙ own))
 
 after_lent : (s : ℕ) (deed : Deed) (books : List Ledger) → have_loans_made books ≡ true → have_loans_made (ledgers_after s deed books) ≡ true
 after_lent s deed [] lent = refl

@@ -102,7 +102,7 @@ fn ledgers_after(
     requires lent { words.have_loans_made ledgers.items ≡ true }
     ensures { IfOk result (λ after. after.items ≡ words.ledgers_after space deed ledgers.items) }
 {
-    if ledgers.is_empty() {
+    if ledgers.as_slice().is_empty() {
         return Ok(ledgers);
     }
     let first = ledgers.remove(0);

@@ -191,11 +191,7 @@ fn are_in_order(
 }
 
 // Whether what the space of a ledger acted on in each session is a front of what was sent to it.
-fn is_all_in_order(
-    alloc: Global,
-    ledger: &Ledger,
-    books: &[Ledger],
-) -> Result<bool, AllocError>
+fn is_all_in_order(alloc: Global, ledger: &Ledger, books: &[Ledger]) -> Result<bool, AllocError>
     ensures { IfOk result (λ answer. answer
         ≡ list_all (words.is_in_order_by (books_words.sent_by books.now) ledger.now)
         (tests.sessions_in ledger.now.index.deeds)) }
@@ -231,8 +227,8 @@ fn have_fronts(alloc: Global, ledgers: &[Ledger], books: &[Ledger]) -> Result<bo
 }
 
 /// Whether all fronts are as they should be, by the ledgers of all spaces. It compares each item
-/// that was acted on with the one that was sent, once; for each session of two spaces it passes what
-/// both sent and acted on.
+/// that was acted on with the one that was sent, once; for each session of two spaces it passes
+/// what both sent and acted on.
 pub fn keeps_fronts(alloc: Global, books: &[Ledger]) -> Result<bool, AllocError>
     ensures { IfOk result (λ answer. answer ≡ words.keeps_fronts_by books.now) }
 {

@@ -47,9 +47,7 @@ fn item_of<'a>(space: SpaceId, source: &Source, books: &'a [Ledger]) -> Option<&
         (books_words.sent_by books.now source.now.from) }
 {
     match find_ledger(source.from, books) {
-        Some(ledger) => ledger
-            .sent_items
-            .item(space, source.session, source.number),
+        Some(ledger) => ledger.sent_items.item(space, source.session, source.number),
         None => None,
     }
 }

@@ -251,16 +251,10 @@ fn with_all(
 }
 
 // The numbers of the sessions with the owners of some references.
-fn owner_sessions(
-    alloc: Global,
-    past: &DeedIndex,
-    reps: &[WireRep],
-) -> Result<Vec<u32>, AllocError>
+fn owner_sessions(alloc: Global, past: &DeedIndex, reps: &[WireRep]) -> Result<Vec<u32>, AllocError>
     ensures { IfOk result (λ owners. owners.items ≡ owners_word past.now.deeds reps.now) }
 {
-    reps.iter()
-        .map(|rep| past.number(rep.owner))
-        .collect(alloc)
+    reps.iter().map(|rep| past.number(rep.owner)).collect(alloc)
 }
 
 // These once each reference of a gift was sent by the item of this number.
@@ -275,7 +269,14 @@ fn with_places(
         ≡ words.with_all past.now.deeds gift.now.to count (counted_in gift.now.item) carriers) }
 {
     let reps = nob_item::counted_refs(alloc, &gift.item)?;
-    with_all(alloc, past, gift.to, ItemNo::new(count), reps.as_slice(), carriers)
+    with_all(
+        alloc,
+        past,
+        gift.to,
+        ItemNo::new(count),
+        reps.as_slice(),
+        carriers,
+    )
 }
 
 // What is sent as a gift under this number after what was done.
@@ -403,8 +404,8 @@ impl SentItems {
     }
 
     /// These with one gift more, in the present sessions with the peer and with the owners of its
-    /// references, under the next number of its session. Only memory fails it: no journal has so many
-    /// items that they can't be counted. It looks up each reference of the item.
+    /// references, under the next number of its session. Only memory fails it: no journal has so
+    /// many items that they can't be counted. It looks up each reference of the item.
     pub fn with_gift(
         self,
         alloc: Global,

@@ -81,9 +81,7 @@ fn holds_still(change: &Change, after: &DeedIndex, mark: Mark) -> bool
             !after.is_closed(client) && is_entered_still(change, after, rep.index, client)
         }
         Mark::Pinned(_, peer, session, item) => {
-            session == after.number(peer)
-                && !after.is_settled(peer, item)
-                && !after.is_closed(peer)
+            session == after.number(peer) && !after.is_settled(peer, item) && !after.is_closed(peer)
         }
     }
 }
