@@ -8,3 +8,4 @@ pub mod ReadSegments
 pub mod ReadPeers
 pub mod Memory
 pub mod Written
+pub mod ReadInputs

@@ -4,3 +4,5 @@ pub mod Reading
 pub mod Openings
 pub mod Writing
 pub mod Laws
+pub mod Inputs
+pub mod Faults

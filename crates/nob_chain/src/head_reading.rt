@@ -6,11 +6,11 @@ ghost use Rattle.nob_chain.specs.declared.head.ChainHead.{ChainHead as HeadOf};
 ghost use Rattle.nob_chain.specs.Chains as spec;
 ghost use Rattle.nob_chain.specs.Openings.{OpeningFault};
 
-use crate::digits::{number_behind, number_of};
 use crate::fault::ChainFault;
 use crate::head::ChainHead;
 use nob_ids::Limits;
 use nob_model_text::space_of;
+use nob_trace::{limits_at, number_behind, number_of};
 
 // What a first line says: `None` where it spells none. It takes no memory.
 pub fn head_of(line: &[u8]) -> Option<ChainHead>
@@ -76,25 +76,6 @@ fn spaces_at(text: &[u8]) -> Option<(u64, u64, &[u8])>
     };
     match number_behind(behind, b"of ".as_slice()) {
         Some((n, rest)) => Some((space, n, rest)),
-        None => None,
-    }
-}
-
-// The numbers of the limits at the front of a text, and what is left behind the space that follows.
-fn limits_at(text: &[u8]) -> Option<(u64, u64, &[u8])>
-    ensures found { IfSome result (λ parts. text.now ≡ codes "window " ++ (decimal parts.0 ++
-        (codes " retry " ++ (decimal parts.1 ++ 32 ∷ parts.2.now)))) }
-    ensures only { (window retry : ℕ) (rest : List ℕ) → window < 2 ^ 64 → retry < 2 ^ 64
-        → text.now
-        ≡ codes "window " ++ (decimal window ++ (codes " retry " ++ (decimal retry ++ 32 ∷ rest)))
-        → IsSomeAnd result (λ parts. (parts.0 ≡ window) × (parts.1 ≡ retry)
-        × (parts.2.now ≡ rest)) }
-{
-    let Some((window, behind)) = number_behind(text, b"window ".as_slice()) else {
-        return None;
-    };
-    match number_behind(behind, b"retry ".as_slice()) {
-        Some((retry, rest)) => Some((window, retry, rest)),
         None => None,
     }
 }

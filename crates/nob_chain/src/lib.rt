@@ -2,14 +2,14 @@
 #![tactic(auto)]
 
 mod chain;
-mod digits;
 mod fault;
 mod head;
 mod head_reading;
+mod inputs;
 pub mod laws;
-mod lines;
 mod numbers;
 mod reading;
+mod refusals;
 mod seal;
 mod seal_reading;
 mod segment;
@@ -18,7 +18,9 @@ mod writing;
 pub use chain::{Chain, ChainParts};
 pub use fault::{ChainError, ChainFault};
 pub use head::ChainHead;
+pub use inputs::decode_all;
 pub use reading::{chain_at, decode};
+pub use refusals::refusal_line;
 pub use seal::{PeerSeal, PeerSeals, Seal};
 pub use segment::{Segment, Segments};
 pub use writing::encode;

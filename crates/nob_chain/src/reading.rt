@@ -17,13 +17,12 @@ use crate::chain::{Chain, ChainParts};
 use crate::fault::{ChainError, ChainFault};
 use crate::head::ChainHead;
 use crate::head_reading::{count_of, head_of};
-use crate::lines::whole_line;
 use crate::seal::Seal;
 use crate::seal_reading::spelt_seal;
 use crate::segment::{Segment, Segments};
 use nob_frame::Version;
 use nob_model_text::Unread;
-use nob_trace::{Entries, Stamped, entry_of};
+use nob_trace::{Entries, Stamped, entry_of, whole_line};
 use std::alloc::Global;
 
 /// The one chain that a text is, or what the first line that isn't as it should be is refused for:
@@ -58,7 +57,8 @@ pub fn chain_at(alloc: Global, text: &[u8]) -> Result<(Chain, &[u8]), ChainError
 
 // The one chain that a text is, or what it is refused for.
 fn whole_chain(alloc: Global, text: &[u8]) -> Result<Chain, ChainError>
-    ensures found { spec.Answers (λ chain. chains.IsChain chain × (text.now ≡ chains.chain_text chain))
+    ensures found { spec.Answers (λ chain. chains.IsChain chain
+        × (text.now ≡ chains.chain_text chain))
         (λ fault. spec.ChainProblem text.now fault) result }
     ensures memory { spec.RunsOut (spec.AtSegment text.now) result }
 {
@@ -140,7 +140,8 @@ fn segment_at<'a>(
         × Rise last parts.0.entries
         × (text.now ≡ chains.lines_text (chains.segment_lines (behind + 1) parts.0) ++ parts.1.now))
         (λ fault. spec.GoesWrong head.now (spec.between behind last) text.now fault) result }
-    ensures memory { spec.RunsOut (spec.AtLine head.now (spec.between behind last) text.now) result }
+    ensures memory { spec.RunsOut (spec.AtLine head.now (spec.between behind last) text.now)
+        result }
 {
     let (count, lines) = opening_at(behind, text)?;
     let (entries, left) = entries_at(alloc, last, lines, count)?;

@@ -157,7 +157,8 @@ fn counts_at(alloc: Global, text: &[u8]) -> Result<(u64, u64, &[u8]), Unread>
     ensures found { IfOk result (λ parts. text.now ≡ codes " sent " ++ (decimal parts.0 ++ (codes
         " acted " ++ (decimal parts.1 ++ parts.2.now)))) }
     ensures only { (sent acted : ℕ) (rest : List ℕ) → sent < 2 ^ 64 → acted < 2 ^ 64 → Stops rest
-        → text.now ≡ codes " sent " ++ (decimal sent ++ (codes " acted " ++ (decimal acted ++ rest)))
+        → text.now ≡ codes " sent " ++ (decimal sent ++
+        (codes " acted " ++ (decimal acted ++ rest)))
         → Reads (λ parts. (parts.0 ≡ sent) × (parts.1 ≡ acted) × (parts.2.now ≡ rest)) result }
 {
     let (sent, behind) = number_after(alloc, text, b" sent ".as_slice())?;

@@ -5,9 +5,6 @@ ghost use Rattle.std.specs.Fmt.{decimal};
 ghost use Rattle.std.specs.List.{AllByRecursion};
 ghost use Rattle.std.specs.String.{string_bytes};
 ghost use Rattle.nob_frame.specs.declared.version.Version.TheVariants.{Two};
-ghost use Rattle.nob_frame.specs.Spelling.{Fits};
-ghost use Rattle.nob_model_text.specs.Events as events;
-ghost use Rattle.nob_trace.specs.Frames as frames;
 ghost use Rattle.nob_trace.specs.Entries as entries;
 ghost use Rattle.nob_chain.specs.Seals as seals;
 ghost use Rattle.nob_chain.specs.Chains as spec;
@@ -18,10 +15,8 @@ use crate::fault::{ChainError, ChainFault};
 use crate::head::ChainHead;
 use crate::seal::{PeerSeal, Seal};
 use crate::segment::Segment;
-use nob_frame::{Frame, FrameError, Version};
+use nob_frame::Version;
 use nob_ids::Reason;
-use nob_model_text::event_text;
-use nob_model_types::{Answer, Event, Refusal};
 use nob_trace::{Stamped, TraceError};
 use std::alloc::{AllocError, Global};
 
@@ -116,48 +111,10 @@ fn entry_text(alloc: Global, entry: &Stamped) -> Result<String, ChainError>
     ensures { Writes (λ text. string_bytes text ≡ entries.entry_text Two entry.now)
         (entries.HasSpelling Two entry.now) result }
 {
-    let stamp = entry.stamp;
-    let event = traced_event_text(alloc, &entry.event)?;
-    let answer = result_text(alloc, &entry.result)?;
-    Ok(format!(in alloc; "{stamp} {event} = {answer}")?)
-}
-
-// The text of a result.
-fn result_text(alloc: Global, response: &Result<Answer, Refusal>) -> Result<String, ChainError>
-    ensures { Writes (λ text. string_bytes text ≡ entries.result_text Two response.now)
-        (entries.TransmitFits Two response.now) result }
-{
-    match nob_trace::result_text(alloc, Version::Two, response) {
+    match nob_trace::entry_text(alloc, Version::Two, entry) {
         Ok(text) => Ok(text),
         Err(TraceError::Fault(_)) => Err(ChainError::Fault(ChainFault::Entry)),
         Err(TraceError::OutOfMemory) => Err(ChainError::OutOfMemory),
-    }
-}
-
-// The text of an event.
-fn traced_event_text(alloc: Global, event: &Event) -> Result<String, ChainError>
-    ensures { Writes (λ text. string_bytes text
-        ≡ events.event_text (entries.arrival_text Two event.now) event.now)
-        (entries.ArrivalFits Two event.now) result }
-{
-    match event {
-        Event::Arrive(frame) => {
-            let bytes = frame_text(alloc, frame)?;
-            Ok(event_text(alloc, event, bytes.as_str())?)
-        }
-        _ => Ok(event_text(alloc, event, "")?),
-    }
-}
-
-// The text of a frame.
-fn frame_text(alloc: Global, frame: &Frame) -> Result<String, ChainError>
-    ensures { Writes (λ text. string_bytes text ≡ frames.frame_text Two frame.now)
-        (Fits Two frame.now) result }
-{
-    match nob_frame::encode(alloc, frame) {
-        Ok(bytes) => Ok(hex::encode(alloc, bytes.as_slice())?),
-        Err(FrameError::Fault(_)) => Err(ChainError::Fault(ChainFault::Entry)),
-        Err(FrameError::OutOfMemory) => Err(ChainError::OutOfMemory),
     }
 }
 

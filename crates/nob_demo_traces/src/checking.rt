@@ -1,22 +1,22 @@
 //! What `nobj check` does with a whole input.
 
 ghost use Rattle.std.specs.Prelude.{◌≡◌, ◌++◌, [], ℕ, List, IfOk};
-ghost use Rattle.nob_model_traces.specs.Traces.{Spells};
+ghost use Rattle.nob_chain.specs.Inputs.{AreSpelt};
 ghost use Rattle.nob_demo_traces.specs.Checks as spec;
 
 use crate::texts::{fault_line, merged_line};
-use nob_check::{CheckError, check};
+use nob_chain::{Chain, ChainError, decode_all, refusal_line};
+use nob_chain_check::{SetError, check};
 use nob_model_journal::Verdict;
 use nob_script_text::verdict_line;
-use nob_trace::{Trace, TraceError, decode_all, refusal_line};
 use std::alloc::{AllocError, Global};
 
 /// How a check ends.
 #[derive(Clone, Copy, Debug, PartialEq, Eq)]
 pub enum Ending {
-    /// The traces are a run of a world.
+    /// The chains are a run of a world, and their seals are right.
     Accepted,
-    /// They aren't, or the input isn't traces: the line that is written says why.
+    /// They aren't, or the input isn't chains: the line that is written says why.
     Refused,
     /// Memory ran out.
     OutOfMemory,
@@ -35,10 +35,11 @@ impl Ending {
     }
 }
 
-/// Writes what is said of an input, which should be traces one after the other, onto an empty text:
+/// Writes what is said of an input, which should be chains and traces one after the other, onto an
+/// empty text:
 /// how many entries they have, where together they are a run of a world, or the one fault. The
 /// ending's last line is still to follow: the verdict, which is never no, since it is proved of
-/// every set of traces that is accepted. Linear in the input, and in what its events cost.
+/// every set of chains that is accepted. Linear in the input, and in what its events cost.
 pub fn play(alloc: Global, input: &[u8], text: &mut Vec<u8>) -> Ending
     requires { text.old.items ≡ [] }
     ensures { spec.Checks input.now (text.new.items ++ spec.last_line result) result }
@@ -58,28 +59,28 @@ fn line_of(alloc: Global, input: &[u8]) -> Result<(Vec<u8>, Ending), AllocError>
         (said.0.items ++ spec.last_line said.1) said.1) }
 {
     match decode_all(alloc, input) {
-        Ok(traces) => line_of_traces(alloc, traces.as_slice()),
-        Err(TraceError::OutOfMemory) => Err(AllocError),
-        Err(TraceError::Fault(fault)) => Ok((
-            refusal_line(TraceError::Fault(fault)).to_vec(alloc)?,
+        Ok(chains) => line_of_chains(alloc, chains),
+        Err(ChainError::OutOfMemory) => Err(AllocError),
+        Err(ChainError::Fault(fault)) => Ok((
+            refusal_line(ChainError::Fault(fault)).to_vec(alloc)?,
             Ending::Refused,
         )),
     }
 }
 
-// The line that is said of traces, and how the check ends.
-fn line_of_traces(alloc: Global, traces: &[Trace]) -> Result<(Vec<u8>, Ending), AllocError>
-    ensures { (input : List ℕ) → Spells input traces.now → IfOk result (λ said.
+// The line that is said of chains, and how the check ends.
+fn line_of_chains(alloc: Global, chains: Vec<Chain>) -> Result<(Vec<u8>, Ending), AllocError>
+    ensures { (input : List ℕ) → AreSpelt input chains.items → IfOk result (λ said.
         spec.Checks input (said.0.items ++ spec.last_line said.1) said.1) }
 {
-    match check(alloc, traces) {
+    match check(alloc, chains) {
         Ok(merged) => Ok((
             merged_line(alloc, merged.len())?.into_bytes(),
             Ending::Accepted,
         )),
-        Err(CheckError::Fault(fault)) => {
+        Err(SetError::Fault(fault)) => {
             Ok((fault_line(alloc, fault)?.into_bytes(), Ending::Refused))
         }
-        Err(CheckError::OutOfMemory) => Err(AllocError),
+        Err(SetError::OutOfMemory) => Err(AllocError),
     }
 }

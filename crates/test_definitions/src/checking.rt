@@ -1,39 +1,46 @@
-//! Traces of several spaces, one after the other, checked by the definitions.
+//! Chains and traces of several spaces, one after the other, checked by the definitions.
 
+use nob_chain::{Chain, ChainError, decode_all, refusal_line};
+use nob_model_chains::{SetError, SetFault, check_plainly};
 use nob_model_journal::verdict_of;
-use nob_model_traces::{CheckError, CheckFault, check_plainly};
+use nob_model_traces::CheckFault;
 use nob_script_text::verdict_line;
-use nob_trace::{Trace, TraceError, decode_all};
+use nob_trace::TraceError;
 use std::alloc::{AllocError, Global};
 
-/// What is said of the traces in an input: how many entries they have together, and the verdict on
-/// these; or what is wrong with the traces; or what the first line is refused for that isn't as it
+/// What is said of the chains in an input: how many entries they have together, and the verdict on
+/// these; or what is wrong with the chains; or what the first line is refused for that isn't as it
 /// should be. It is slow on purpose.
 pub fn output_of(alloc: Global, input: &[u8]) -> Result<Vec<u8>, TraceError> {
-    let traces = decode_all(alloc, input)?;
-    Ok(said_of(alloc, traces.as_slice())?.into_bytes())
+    match decode_all(alloc, input) {
+        Ok(chains) => Ok(said_of(alloc, chains.as_slice())?.into_bytes()),
+        Err(ChainError::OutOfMemory) => Err(TraceError::OutOfMemory),
+        Err(ChainError::Fault(fault)) => {
+            Ok(refusal_line(ChainError::Fault(fault)).to_vec(alloc)?)
+        }
+    }
 }
 
-// What is said of traces: how many entries they have and the verdict on these, or what is wrong.
-fn said_of(alloc: Global, traces: &[Trace]) -> Result<String, AllocError> {
-    match check_plainly(alloc, traces) {
+// What is said of chains: how many entries they have and the verdict on these, or what is wrong.
+fn said_of(alloc: Global, chains: &[Chain]) -> Result<String, AllocError> {
+    match check_plainly(alloc, chains) {
         Ok(mut merged) => {
             let count = merged.len();
             let mut text = format!(in alloc; "merged {count}\n")?;
             merged.reverse();
-            let verdict = verdict_of(alloc, spaces_of(traces), merged.as_slice())?;
+            let verdict = verdict_of(alloc, spaces_of(chains), merged.as_slice())?;
             push_line(&mut text, verdict_line(verdict))?;
             Ok(text)
         }
-        Err(CheckError::Fault(fault)) => fault_line(alloc, fault),
-        Err(CheckError::OutOfMemory) => Err(AllocError),
+        Err(SetError::Fault(fault)) => fault_line(alloc, fault),
+        Err(SetError::OutOfMemory) => Err(AllocError),
     }
 }
 
-// How many spaces there are, by the first trace: as many as each of accepted ones says.
-fn spaces_of(traces: &[Trace]) -> u16 {
-    match traces.first() {
-        Some(trace) => trace.n.get(),
+// How many spaces there are, by the first chain: as many as each of accepted ones says.
+fn spaces_of(chains: &[Chain]) -> u16 {
+    match chains.first() {
+        Some(chain) => chain.parts().n.get(),
         None => 0,
     }
 }
@@ -46,8 +53,16 @@ fn push_line(text: &mut String, line: &[u8]) -> Result<(), AllocError> {
     Ok(())
 }
 
-// What is said of what is wrong with traces.
-fn fault_line(alloc: Global, fault: CheckFault) -> Result<String, AllocError> {
+// What is said of what is wrong with chains.
+fn fault_line(alloc: Global, fault: SetFault) -> Result<String, AllocError> {
+    match fault {
+        SetFault::Traces(fault) => trace_line(alloc, fault),
+        SetFault::Seal(space, number) => format!(in alloc; "C5 {space} {number}\n"),
+    }
+}
+
+// What is said of what is wrong with the traces that chains are.
+fn trace_line(alloc: Global, fault: CheckFault) -> Result<String, AllocError> {
     match fault {
         CheckFault::Set => format!(in alloc; "C4\n"),
         CheckFault::NotARun(space, place) => format!(in alloc; "C1 {space} {place}\n"),

@@ -1,4 +1,0 @@
-use Rattle.nob_chain.proofs.digits.+spells.Given as goal
-
-abbrev pub decreases-spells : goal.decreases-spells
-decreases-spells l = l.number

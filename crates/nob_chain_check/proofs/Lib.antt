@@ -1,0 +1,4 @@
+pub mod Peers
+pub mod Answering
+pub mod Passing
+pub mod Accepting

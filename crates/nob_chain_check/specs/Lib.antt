@@ -1,0 +1,3 @@
+pub use Rattle.nob_model_chains.specs.Faults
+pub mod Running
+pub mod Accepting

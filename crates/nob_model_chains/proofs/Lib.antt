@@ -1,0 +1,4 @@
+pub mod Choosing
+pub mod Passing
+pub mod AsTraces
+pub mod Faulting

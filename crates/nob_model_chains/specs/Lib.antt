@@ -1,0 +1,4 @@
+pub mod Sealing
+pub mod Parts
+pub mod Faults
+pub mod Lowest
