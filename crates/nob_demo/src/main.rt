@@ -7,7 +7,7 @@ mod streams;
 #[cfg(test)]
 mod tests;
 
-use crate::streams::{Sink, Source};
+use crate::streams::{CountedReader, Sink};
 use std::alloc::Global;
 use std::process::ExitCode;
 use std::{env, io};
@@ -30,7 +30,7 @@ fn main(rt: HostRuntime) -> ExitCode {
         &rt,
         alloc,
         words.as_slice(),
-        &mut Source::new(rt.stdin()),
+        &mut CountedReader::new(rt.stdin()),
         &mut out,
         &mut err,
     );

@@ -4,7 +4,7 @@ ghost use Rattle.std.specs.Prelude.{◌≡◌, ◌≤◌, ◌<◌, ◌+◌, ℕ,
 ghost use Rattle.std.specs.Io.KnownBytes.{Consumes};
 ghost use Rattle.nob_demo.specs.Program.{IsWhole, IsReadingFault, most_bytes, most_reads};
 
-use crate::streams::{MOST_READS, Source};
+use crate::streams::{CountedReader, MOST_READS};
 use nob_demo_spaces::Fault;
 use std::alloc::Global;
 use std::io::Read;
@@ -17,7 +17,7 @@ const PIECE: usize = 4096;
 
 /// The whole input, by at most 2^20 reads and at most 2^26 bytes: a read that fails, or more than
 /// that, is a read fault.
-pub fn read_all<R: Read>(alloc: Global, source: &mut Source<R>) -> Result<Vec<u8>, Fault>
+pub fn read_all<R: Read>(alloc: Global, source: &mut CountedReader<R>) -> Result<Vec<u8>, Fault>
     requires { (source.old.reads ≡ 0) × (source.old.bytes ≡ 0) × (source.old.failed ≡ false)
         × (source.old.ended ≡ false) }
     ensures whole { IfOk result (λ input.
@@ -50,7 +50,7 @@ pub fn read_all<R: Read>(alloc: Global, source: &mut Source<R>) -> Result<Vec<u8
 }
 
 // Reads some bytes onto the input: whether there were any.
-fn read_some<R: Read>(source: &mut Source<R>, input: &mut Vec<u8>) -> Result<bool, Fault>
+fn read_some<R: Read>(source: &mut CountedReader<R>, input: &mut Vec<u8>) -> Result<bool, Fault>
     requires reads { source.old.reads < most_reads }
     requires going { (source.old.failed ≡ false) × (source.old.ended ≡ false) }
     requires count { length input.old.items ≡ source.old.bytes }

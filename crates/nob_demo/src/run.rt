@@ -6,7 +6,7 @@ ghost use Rattle.nob_demo_spaces.specs.Words.{subcommand_in, word_faults, takes_
 ghost use Rattle.nob_demo.specs.Program.{Ended, Does, Goes, IsInput, IsReadingFault, reads_input, status_of, world_status_of, check_status_of, draw_status_of, scene_status_of};
 
 use crate::reading::read_all;
-use crate::streams::{Sink, Source};
+use crate::streams::{CountedReader, Sink};
 use nob_demo_scripts::pair_script::Outcome;
 use nob_demo_spaces::{Fault, Subcommand, judge};
 use nob_demo_traces::drawing::Part;
@@ -27,7 +27,7 @@ pub fn run<H: Threads + Wait + Sync, S: AsStr, R: Read, W: Write, E: Write>(
     rt: &H,
     alloc: Global,
     words: &[S],
-    reader: &mut Source<R>,
+    reader: &mut CountedReader<R>,
     out: &mut Sink<W>,
     err: &mut Sink<E>,
 ) -> u8
@@ -71,7 +71,7 @@ fn attempt<H: Threads + Wait + Sync, S: AsStr, R: Read, W: Write>(
     rt: &H,
     alloc: Global,
     words: &[S],
-    reader: &mut Source<R>,
+    reader: &mut CountedReader<R>,
     out: &mut Sink<W>,
 ) -> Result<u8, Fault>
     requires reader { (reader.old.reads ≡ 0) × (reader.old.bytes ≡ 0) × (reader.old.failed ≡ false)
@@ -110,7 +110,7 @@ fn attempt<H: Threads + Wait + Sync, S: AsStr, R: Read, W: Write>(
 fn input_of<R: Read>(
     alloc: Global,
     subcommand: &Subcommand,
-    source: &mut Source<R>,
+    source: &mut CountedReader<R>,
 ) -> Result<Vec<u8>, Fault>
     requires { (source.old.reads ≡ 0) × (source.old.bytes ≡ 0) × (source.old.failed ≡ false)
         × (source.old.ended ≡ false) }

@@ -21,7 +21,7 @@ pub struct WriteFailed;
 /// A reader, how often it was read, how many bytes that gave, whether a read failed, and whether
 /// one told the end.
 #[derive(Drop)]
-pub struct Source<R> {
+pub struct CountedReader<R> {
     reader: R,
     reads: u32,
     bytes: u64,
@@ -29,14 +29,14 @@ pub struct Source<R> {
     ended: bool,
 }
 
-impl<R: Read> Source<R> {
+impl<R: Read> CountedReader<R> {
     /// This reader, from which nothing was read.
-    pub fn new(reader: R) -> Source<R>
+    pub fn new(reader: R) -> CountedReader<R>
         ensures reader { result.reader ≡ reader }
         ensures new { (result.reads ≡ 0) × (result.bytes ≡ 0) × (result.failed ≡ false)
             × (result.ended ≡ false) }
     {
-        Source {
+        CountedReader {
             reader,
             reads: 0,
             bytes: 0,

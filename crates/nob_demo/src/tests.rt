@@ -1,7 +1,7 @@
 //! What no script shows: one read or one write that fails, and calls that would go on after it.
 
 use crate::run::run;
-use crate::streams::{Sink, Source};
+use crate::streams::{CountedReader, Sink};
 use std::alloc::Global;
 use std::io;
 use std::io::{Read, Write};
@@ -17,7 +17,7 @@ fn pair<H: Threads + Wait + Sync>(rt: &H, alloc: Global, script: &[u8]) -> (u8, 
         rt,
         alloc,
         &["nobj", "pair"],
-        &mut Source::new(script),
+        &mut CountedReader::new(script),
         &mut Sink::new(&mut out),
         &mut Sink::new(&mut err),
     );
@@ -63,7 +63,7 @@ fn each_read_fails(rt: HostRuntime) -> Result<(), Fail> {
             &rt,
             rt.alloc(),
             &["nobj"],
-            &mut Source::new(frail),
+            &mut CountedReader::new(frail),
             &mut Sink::new(&mut out),
             &mut Sink::new(&mut err),
         );
@@ -89,7 +89,7 @@ fn a_write_fails(rt: HostRuntime) -> Result<(), Fail> {
             &rt,
             rt.alloc(),
             &["nobj", "pair"],
-            &mut Source::new(FIRST_FRAME_LOST),
+            &mut CountedReader::new(FIRST_FRAME_LOST),
             &mut Sink::new(&mut room[..len]),
             &mut Sink::new(&mut err),
         );
@@ -138,7 +138,7 @@ fn one_write_fails(rt: HostRuntime) -> Result<(), Fail> {
             &rt,
             rt.alloc(),
             &["nobj"],
-            &mut Source::new(FIRST_FRAME_LOST),
+            &mut CountedReader::new(FIRST_FRAME_LOST),
             &mut Sink::new(frail),
             &mut Sink::new(&mut err),
         );
