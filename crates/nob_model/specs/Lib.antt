@@ -16,6 +16,7 @@ pub use Rattle.nob_model_history.specs.Listing
 pub use Rattle.nob_model_acting.specs.Sending
 pub use Rattle.nob_model_acting.specs.Acting
 pub use Rattle.nob_model_acting.specs.Candidates
+pub mod Opening
 pub mod Right
 pub mod Lists
 pub mod Next

@@ -51,6 +51,7 @@ use Rattle.nob_model_history.specs.Listing.{is_any_listed}
 use Rattle.nob_model_acting.specs.Sending.{◌or_else◌, refuse_if, is_gone, value_refused, send_refused, has_numbers, unless}
 use Rattle.nob_model_acting.specs.Acting.{act_on}
 use Rattle.nob_model_acting.specs.Candidates.{to_settle, to_clean, to_claim}
+use Rattle.nob_model.specs.Opening.{right_open}
 
 -- so many live objects and no more
 abbrev pub most_objects : ℕ
@@ -265,6 +266,7 @@ right_after s n limits h (events.Transmit p) = right_frames s n p limits.window 
 right_after s n limits h (events.Arrive frame) = right_arrival s n frame h
 right_after s n limits h (events.Tick p) = right_ticks s n p limits.retry h
 right_after s n limits h (events.Close p) = right_closing s n p h
+right_after s n limits h (events.Open p) = right_open s n p h
 
 -- the one right answer of space s among n, with these limits, after the entries of its list
 abbrev pub right : (s n : ℕ) → Limits → List Entry → Event → Result Answer Refusal

@@ -49,6 +49,7 @@ pub fn same_answer(answer: &Answer, other: &Answer) -> bool
         Answer::Withdrawn => matches!(other, Answer::Withdrawn),
         Answer::Frames(frames) => is_frames(other, frames),
         Answer::Took(count) => matches!(other, Answer::Took(twin) if *count == *twin),
+        Answer::Opened(number) => matches!(other, Answer::Opened(twin) if *number == *twin),
     }
 }
 

@@ -54,6 +54,7 @@ pub fn same_event(event: &Event, other: &Event) -> bool
         Event::Arrive(frame) => is_arrive(other, frame),
         Event::Tick(peer) => matches!(other, Event::Tick(twin) if *peer == *twin),
         Event::Close(peer) => matches!(other, Event::Close(twin) if *peer == *twin),
+        Event::Open(peer) => matches!(other, Event::Open(twin) if *peer == *twin),
     }
 }
 

@@ -9,6 +9,7 @@ mod events;
 mod frames;
 pub mod laws;
 pub mod next;
+pub mod opening;
 pub mod right;
 pub mod tallies;
 mod values;

@@ -14,6 +14,7 @@ ghost use Rattle.nob_model_session.specs.Right.{right_front, first_of};
 ghost use Rattle.nob_model_history.specs.Ends.{calls_at as calls_word};
 ghost use Rattle.nob_model.specs.Right as words;
 
+use crate::opening::open;
 use nob_frame::Frame;
 use nob_ids::{CallNo, ItemNo, JobNo, Limits, Reason, SpaceId, WireRep};
 use nob_item::Item;
@@ -49,7 +50,7 @@ pub const MOST_CALLS: usize = 4096;
 pub const GREATEST_HAND: u64 = (1 << 32) - 1;
 
 // What is answered, in whatever memory there is.
-type Answered = Result<Result<Answer, Refusal>, AllocError>;
+pub(crate) type Answered = Result<Result<Answer, Refusal>, AllocError>;
 
 /// What is answered to Export: the reference of the next index.
 #[tactic(auto, unfolding(crate::specs::Right::right_export))]
@@ -722,6 +723,7 @@ pub fn after(
         Event::Arrive(frame) => arrive(alloc, here, frame, history),
         Event::Tick(peer) => tick(alloc, here, *peer, limits.retry, history),
         Event::Close(peer) => close(alloc, here, *peer, history),
+        Event::Open(peer) => open(alloc, here, *peer, history),
     }
 }
 

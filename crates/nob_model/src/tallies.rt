@@ -25,6 +25,12 @@ fn acted(peer: SpaceId, deeds: &[Deed]) -> usize
             }
             acted(peer, older)
         }
+        [Deed::Open(other, _), older @ ..] => {
+            if *other == peer {
+                return 0;
+            }
+            acted(peer, older)
+        }
         [_, older @ ..] => acted(peer, older),
     }
 }

@@ -58,7 +58,7 @@ of_end end_refusals.Closed = refusals.Closed
 of_end end_refusals.QueueFull = refusals.QueueFull
 of_end end_refusals.SeqEnd = refusals.SeqEnd
 of_end end_refusals.Strange = refusals.NoPeer
-of_end end_refusals.StillOpen = refusals.NoPeer
+of_end end_refusals.StillOpen = refusals.StillOpen
 of_end end_refusals.Number = refusals.Limit
 
 -- the refusal in a result

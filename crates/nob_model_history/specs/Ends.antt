@@ -1,5 +1,5 @@
 -- The calls that a space makes on its end of the session with each peer.
-use Rattle.std.specs.Prelude.{ℕ, ◌+◌, Bool, true, false, ◌==◌, List, [], ◌∷◌, ◌++◌, length, map, filter, Option, Some, None, Result, Ok, Err, nat_le, if◌then◌else◌}
+use Rattle.std.specs.Prelude.{ℕ, ◌+◌, Bool, true, false, ◌==◌, List, [], ◌∷◌, ◌++◌, length, map, filter, Option, Some, None, Result, Ok, Err, nat_le, tt, if◌then◌else◌}
 use Rattle.nob_ids.specs.declared.reason.Reason.{Reason}
 use Rattle.nob_frame.specs.declared.frame.Frame.{Frame}
 use Rattle.nob_item.specs.Writing.{bytes_of}
@@ -14,7 +14,7 @@ use Rattle.nob_model_session.specs.declared.entry.Arrived.TheVariants as arrived
 use Rattle.nob_model_session.specs.declared.entry.EndEntry.{EndEntry}
 use Rattle.nob_model_session.specs.declared.entry.EndEntry.TheVariants as ends
 use Rattle.nob_model_types.specs.declared.deed.Deed.{Deed}
-use Rattle.nob_model_types.specs.declared.deed.Deed.TheVariants.{Act, Transmit, Arrive, Tick, Closing}
+use Rattle.nob_model_types.specs.declared.deed.Deed.TheVariants.{Act, Transmit, Arrive, Tick, Closing, Open}
 use Rattle.nob_model_types.specs.declared.deed.Cause.{Cause}
 use Rattle.nob_model_types.specs.declared.deed.Cause.TheVariants as causes
 use Rattle.nob_model_work.specs.declared.gifts.Gift.{Gift}
@@ -62,6 +62,7 @@ own_calls p (Transmit q frames) calls = if q == p then ends.Transmit frames ∷ 
 own_calls p (Arrive frame count) calls = if frame.from == p then ends.Arrive frame (Ok (arrived.Took count)) ∷ calls else calls
 own_calls p (Tick q) calls = if q == p then ends.Tick (Ok None) ∷ calls else calls
 own_calls p (Closing q reason cause) calls = if q == p then call_of_closing p reason cause ∷ calls else calls
+own_calls p (Open q k) calls = if q == p then ends.Reopen k (Ok tt) ∷ calls else calls
 own_calls p (_) calls = calls
 
 -- the calls on the end with p by deeds and what they gave, the newest first: what a deed gives is sent before its item is taken

@@ -4,7 +4,7 @@ use Rattle.std.specs.List.{list_any}
 use Rattle.nob_item.specs.declared.item.Item.{Item}
 use Rattle.nob_item.specs.declared.item.Item.TheVariants as items
 use Rattle.nob_model_types.specs.declared.deed.Deed.{Deed}
-use Rattle.nob_model_types.specs.declared.deed.Deed.TheVariants.{Act}
+use Rattle.nob_model_types.specs.declared.deed.Deed.TheVariants.{Act, Open}
 use Rattle.nob_model_types.specs.Sessions.{closed, item_at}
 use Rattle.nob_model_types.specs.Objects.{is_live}
 
@@ -19,9 +19,10 @@ is_entered_after s index (Some (items.DirtyOk x)) D before = before
 is_entered_after s index (Some (items.DirtyNo x)) D before = before
 is_entered_after s index (Some (items.Clean x)) D before = if x == index then false else before
 
--- whether client c's last Dirty or Clean for an index that was acted on is a Dirty that was answered by DirtyOk
+-- whether client c's last Dirty or Clean for an index that was acted on in the session with c is a Dirty that was answered by DirtyOk
 abbrev pub is_entered : (s index c : ℕ) → List Deed → Bool
 is_entered s index c [] = false
+is_entered s index c (Open q k ∷ D) = if q == c then false else is_entered s index c D
 is_entered s index c (Act p k ∷ D) = if p == c then is_entered_after s index (item_at p k D) D (is_entered s index c D) else is_entered s index c D
 is_entered s index c (_ ∷ D) = is_entered s index c D
 

@@ -7,7 +7,7 @@ use Rattle.nob_item.specs.Kinds.{counted_in}
 use Rattle.nob_item.specs.declared.item.Item.{Item}
 use Rattle.nob_item.specs.declared.item.Item.TheVariants as items
 use Rattle.nob_model_types.specs.declared.deed.Deed.{Deed}
-use Rattle.nob_model_types.specs.declared.deed.Deed.TheVariants.{Act}
+use Rattle.nob_model_types.specs.declared.deed.Deed.TheVariants.{Act, Open}
 use Rattle.nob_model_types.specs.Sessions.{closed, number, item_at}
 use Rattle.nob_model_types.specs.Turns.{turns, is_standing, is_usable}
 use Rattle.nob_model_work.specs.declared.gifts.Gift.{Gift}
@@ -63,9 +63,10 @@ is_settle_of k (Some (items.DirtyOk index)) = false
 is_settle_of k (Some (items.DirtyNo index)) = false
 is_settle_of k (Some (items.Clean index)) = false
 
--- whether the Settle of item k from p was acted on
+-- whether the Settle of item k from p was acted on in the session with p
 abbrev pub is_settled : (p k : ℕ) → List Deed → Bool
 is_settled p k [] = false
+is_settled p k (Open q j ∷ D) = if q == p then false else is_settled p k D
 is_settled p k (Act q j ∷ D) = (q == p && is_settle_of k (item_at q j D)) || is_settled p k D
 is_settled p k (_ ∷ D) = is_settled p k D
 

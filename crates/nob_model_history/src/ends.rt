@@ -140,6 +140,12 @@ fn own_calls(peer: SpaceId, deed: &Deed, calls: Vec<EndEntry>) -> Result<Vec<End
             }
             Ok(calls)
         }
+        Deed::Open(other, number) => {
+            if *other == peer {
+                return with_call(EndEntry::Reopen(*number, Ok(())), calls);
+            }
+            Ok(calls)
+        }
         _ => Ok(calls),
     }
 }

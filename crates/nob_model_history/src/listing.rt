@@ -39,8 +39,8 @@ fn is_entered_after(
     }
 }
 
-/// Whether a client's last Dirty or Clean for an index that was acted on is a Dirty that was
-/// answered by DirtyOk.
+/// Whether a client's last Dirty or Clean for an index that was acted on in the session with it is a
+/// Dirty that was answered by DirtyOk.
 pub fn is_entered(
     alloc: Global,
     space: SpaceId,
@@ -59,6 +59,12 @@ pub fn is_entered(
                 return is_entered_after(alloc, space, index, &item, older, before);
             }
             Ok(before)
+        }
+        [Deed::Open(other, _), older @ ..] => {
+            if *other == client {
+                return Ok(false);
+            }
+            is_entered(alloc, space, index, client, older)
         }
         [_, older @ ..] => is_entered(alloc, space, index, client, older),
     }

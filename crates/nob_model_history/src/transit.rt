@@ -147,7 +147,7 @@ fn is_settle_of(number: ItemNo, item: &Option<Item>) -> bool
     }
 }
 
-/// Whether the Settle of an item from a peer was acted on.
+/// Whether the Settle of an item from a peer was acted on in the session with it.
 pub fn is_settled(
     alloc: Global,
     peer: SpaceId,
@@ -162,6 +162,12 @@ pub fn is_settled(
             let came = sessions::item_at(alloc, *from, *item, older)?;
             if *from == peer && is_settle_of(number, &came) {
                 return Ok(true);
+            }
+            is_settled(alloc, peer, number, older)
+        }
+        [Deed::Open(other, _), older @ ..] => {
+            if *other == peer {
+                return Ok(false);
             }
             is_settled(alloc, peer, number, older)
         }
@@ -286,12 +292,19 @@ fn refs_in_all(alloc: Global, sent_items: &[SentItem]) -> Result<Vec<WireRep>, A
     }
 }
 
+/// The references with a pin, each as often as it has one.
+pub fn pinned(alloc: Global, history: &History) -> Result<Vec<WireRep>, AllocError>
+    ensures { IfOk result (λ reps. reps.items ≡ words.pinned history.now) }
+{
+    let bundles = bundles(alloc, history)?;
+    refs_in_all(alloc, bundles.as_slice())
+}
+
 /// How many pins a reference has.
 pub fn pins(alloc: Global, rep: &WireRep, history: &History) -> Result<usize, AllocError>
     ensures { IfOk result (λ pins. pins ≡ words.pins rep.now history.now) }
 {
-    let bundles = bundles(alloc, history)?;
-    let reps = refs_in_all(alloc, bundles.as_slice())?;
+    let reps = pinned(alloc, history)?;
     Ok(times(rep, reps.as_slice()))
 }
 

@@ -11,7 +11,7 @@ use Rattle.nob_model_types.specs.Deeds.{deed_in}
 use Rattle.nob_model_types.specs.Sessions.{number, item_at}
 use Rattle.nob_model_types.specs.Turns.{turns, is_refused, is_own, carries, names}
 use Rattle.nob_model_types.specs.declared.deed.Deed.{Deed}
-use Rattle.nob_model_types.specs.declared.deed.Deed.TheVariants.{Act, Clean}
+use Rattle.nob_model_types.specs.declared.deed.Deed.TheVariants.{Act, Clean, Open}
 use Rattle.nob_model_history.specs.Transit.{is_sent_to, sent}
 use Rattle.nob_model_history.specs.declared.transit.SentItem.{SentItem}
 use Rattle.nob_model_journal.specs.declared.losses.Source.{Source}
@@ -23,9 +23,10 @@ abbrev pub is_carried : WireRep → Option Item → Bool
 is_carried rep None = false
 is_carried rep (Some item) = carries rep item
 
--- the copies of a reference that space s acted on since it last sent a Clean for it, the newest first: who sent each, in which session, and in which item
+-- the copies of a reference that space s acted on since it last sent a Clean for it or opened the session with its owner, the newest first: who sent each, in which session, and in which item
 abbrev pub sources : (s n : ℕ) → WireRep → List Deed → List Source
 sources s n rep [] = []
+sources s n rep (Open q k ∷ D) = if q == rep.owner then [] else sources s n rep D
 sources s n rep (Act p k ∷ D) = if is_carried rep (item_at p k D) then record { from = p; session = number p D; number = k } ∷ sources s n rep D else sources s n rep D
 sources s n rep (Clean other ∷ D) = if is_same rep other && (turns s n rep D).asks then [] else sources s n rep D
 sources s n rep (_ ∷ D) = sources s n rep D

@@ -58,7 +58,8 @@ fn is_given_up(
     Ok(turns::turns_of(alloc, here, rep, deeds)?.asks)
 }
 
-// The copies of a reference that a space acted on since it last sent a Clean for it.
+// The copies of a reference that a space acted on since it last sent a Clean for it or opened the
+// session with its owner.
 fn sources(
     alloc: Global,
     here: &Here,
@@ -90,6 +91,12 @@ fn sources(
         }
         [Deed::Clean(cleaned), older @ ..] => {
             if is_given_up(alloc, here, rep, cleaned, older)? {
+                return Ok(Vec::new(alloc));
+            }
+            sources(alloc, here, rep, older)
+        }
+        [Deed::Open(other, _), older @ ..] => {
+            if *other == rep.owner {
                 return Ok(Vec::new(alloc));
             }
             sources(alloc, here, rep, older)

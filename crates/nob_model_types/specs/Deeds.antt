@@ -33,6 +33,7 @@ deed_of (events.Arrive frame) (answers.Closed reason) = Some (did.Closing frame.
 deed_of (events.Tick peer) answers.Done = Some (did.Tick peer)
 deed_of (events.Tick peer) (answers.Closed reason) = Some (did.Closing peer reason causes.Ticks)
 deed_of (events.Close peer) (answers.Closed reason) = Some (did.Closing peer reason causes.Asked)
+deed_of (events.Open peer) (answers.Opened number) = Some (did.Open peer number)
 deed_of _ _ = None
 
 -- what an event with this result did: a refused one did nothing

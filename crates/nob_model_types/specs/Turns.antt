@@ -8,7 +8,7 @@ use Rattle.nob_item.specs.Kinds.{counted_in}
 use Rattle.nob_item.specs.declared.item.Item.{Item}
 use Rattle.nob_item.specs.declared.item.Item.TheVariants as items
 use Rattle.nob_model_types.specs.declared.deed.Deed.{Deed}
-use Rattle.nob_model_types.specs.declared.deed.Deed.TheVariants.{Act, Clean}
+use Rattle.nob_model_types.specs.declared.deed.Deed.TheVariants.{Act, Clean, Open}
 use Rattle.nob_model_types.specs.declared.turns.OwnerAnswer.{OwnerAnswer}
 use Rattle.nob_model_types.specs.declared.turns.OwnerAnswer.TheVariants as said
 use Rattle.nob_model_types.specs.declared.turns.Turns.{Turns}
@@ -81,9 +81,10 @@ turns_after s n p rep (Some (items.DirtyOk index)) D before = if names rep p ind
 turns_after s n p rep (Some (items.DirtyNo index)) D before = if names rep p index then with_answer said.Refused before else before
 turns_after s n p rep (Some (items.Clean index)) D before = before
 
--- the turns of space s, among n, for a reference
+-- the turns of space s, among n, for a reference, in the session with its owner
 abbrev pub turns : (s n : ℕ) → WireRep → List Deed → Turns
 turns s n rep [] = no_turns
+turns s n rep (Open q k ∷ D) = if q == rep.owner then no_turns else turns s n rep D
 turns s n rep (Act p k ∷ D) = turns_after s n p rep (item_at p k D) D (turns s n rep D)
 turns s n rep (Clean other ∷ D) = if is_same rep other then with_clean (turns s n rep D) else turns s n rep D
 turns s n rep (_ ∷ D) = turns s n rep D

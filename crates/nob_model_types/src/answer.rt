@@ -87,6 +87,8 @@ pub enum Answer {
     Frames(Frames),
     /// Of Arrive: so many items were accepted.
     Took(u64),
+    /// Of Open: the number of the session that is open now.
+    Opened(u32),
 }
 
 impl Drop for Answer {
@@ -106,7 +108,8 @@ impl Drop for Answer {
             | Answer::Settled(_, _)
             | Answer::Cleaned(_)
             | Answer::Withdrawn
-            | Answer::Took(_) => {}
+            | Answer::Took(_)
+            | Answer::Opened(_) => {}
         }
     }
 }
@@ -132,6 +135,7 @@ impl Answer {
             Answer::Withdrawn => Ok(Answer::Withdrawn),
             Answer::Frames(frames) => Ok(Answer::Frames(frames.copy()?)),
             Answer::Took(count) => Ok(Answer::Took(*count)),
+            Answer::Opened(number) => Ok(Answer::Opened(*number)),
         }
     }
 }

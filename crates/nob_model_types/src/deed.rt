@@ -69,6 +69,8 @@ pub enum Deed {
     Tick(SpaceId),
     /// The session with a peer closed.
     Closing(SpaceId, Reason, Cause),
+    /// A session with a peer opened anew, under this number.
+    Open(SpaceId, u32),
 }
 
 impl Deed {
@@ -137,6 +139,10 @@ impl Deed {
             },
             Event::Close(peer) => match answer {
                 Answer::Closed(reason) => Ok(Some(Deed::Closing(*peer, *reason, Cause::Asked))),
+                _ => Ok(None),
+            },
+            Event::Open(peer) => match answer {
+                Answer::Opened(number) => Ok(Some(Deed::Open(*peer, *number))),
                 _ => Ok(None),
             },
         }

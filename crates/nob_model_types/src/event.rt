@@ -80,6 +80,8 @@ pub enum Event {
     Tick(SpaceId),
     /// Closes the session with a peer.
     Close(SpaceId),
+    /// Opens a session with a peer anew.
+    Open(SpaceId),
 }
 
 impl Drop for Event {
@@ -103,7 +105,8 @@ impl Drop for Event {
             | Event::Withdraw(_)
             | Event::Transmit(_)
             | Event::Tick(_)
-            | Event::Close(_) => {}
+            | Event::Close(_)
+            | Event::Open(_) => {}
         }
     }
 }
@@ -137,6 +140,7 @@ impl Event {
             Event::Arrive(frame) => Ok(Event::Arrive(frame.copy()?)),
             Event::Tick(peer) => Ok(Event::Tick(*peer)),
             Event::Close(peer) => Ok(Event::Close(*peer)),
+            Event::Open(peer) => Ok(Event::Open(*peer)),
         }
     }
 }

@@ -61,4 +61,10 @@ pub enum Refusal {
     /// S13: a limit is reached.
     #[error("S13: a limit is reached")]
     Limit,
+    /// S15: the session is open at this space.
+    #[error("S15: the session is open at this space")]
+    StillOpen,
+    /// S16: a reference to an object of the peer is held, is pinned or waits at this space.
+    #[error("S16: a reference to an object of the peer is held, is pinned or waits at this space")]
+    StillHeld,
 }

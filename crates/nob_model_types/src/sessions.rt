@@ -10,13 +10,14 @@ use nob_item::{Item, ItemError};
 use nob_model_session::end::brings_at;
 use std::alloc::{AllocError, Global};
 
-/// Whether the session with a peer has closed here.
+/// Whether the session with a peer has closed here, and wasn't opened anew.
 pub fn closed(peer: SpaceId, deeds: &[Deed]) -> bool
     ensures { result ≡ words.closed peer deeds.now }
 {
     match deeds {
         [] => false,
         [Deed::Closing(other, _, _), older @ ..] => *other == peer || closed(peer, older),
+        [Deed::Open(other, _), older @ ..] => *other != peer && closed(peer, older),
         [_, older @ ..] => closed(peer, older),
     }
 }
@@ -36,6 +37,12 @@ fn session_with(peer: SpaceId, deeds: &[Deed]) -> (u32, u128)
             } else {
                 (session, before)
             }
+        }
+        [Deed::Open(other, number), older @ ..] => {
+            if *other == peer {
+                return (*number, 0);
+            }
+            session_with(peer, older)
         }
         [_, older @ ..] => session_with(peer, older),
     }
@@ -75,6 +82,12 @@ pub fn payload_at(peer: SpaceId, number: ItemNo, deeds: &[Deed]) -> Option<&[u8]
                 return Some(frame.payload.as_slice());
             }
             None
+        }
+        [Deed::Open(other, _), older @ ..] => {
+            if *other == peer {
+                return None;
+            }
+            payload_at(peer, number, older)
         }
         [_, older @ ..] => payload_at(peer, number, older),
     }

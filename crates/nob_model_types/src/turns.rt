@@ -226,6 +226,12 @@ pub fn turns_of(
             let before = turns_of(alloc, here, rep, older)?;
             Ok(after_clean(*rep, other, before))
         }
+        [Deed::Open(other, _), older @ ..] => {
+            if *other == rep.owner {
+                return Ok(Turns::none());
+            }
+            turns_of(alloc, here, rep, older)
+        }
         [_, older @ ..] => turns_of(alloc, here, rep, older),
     }
 }
