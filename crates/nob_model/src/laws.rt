@@ -13,7 +13,7 @@ pub fn deeds()
 /// In every list of right deeds the numbers of sessions rise, items were accepted in their turn,
 /// each Settle that was acted on was of an item that was sent before, client and owner took turns,
 /// and so did Exports and Withdraws: what the laws of the crates below ask of a list.
-#[tactic(auto, using(crate::proofs::Opening::numbers_rise, crate::proofs::Premises::in_turn, crate::proofs::Premises::settles_sent, crate::proofs::Premises::took_turns, crate::proofs::Premises::objects_in_turn))]
+#[tactic(auto, using(crate::proofs::Reopening::numbers_rise, crate::proofs::Premises::in_turn, crate::proofs::Premises::settles_sent, crate::proofs::Premises::took_turns, crate::proofs::Premises::objects_in_turn))]
 pub fn premises()
     ensures numbers { NumbersLaw }
     ensures accepted { TurnLaw }
