@@ -1,4 +1,4 @@
-use Rattle.std.proofs.Common.{◌∙◌, ap, sym, refl, None, Some, arith, slice_get}
+use Rattle.std.proofs.Common.{◌∙◌, ap, sym, None, Some, arith, slice_get}
 use Rattle.nob_rows.specs.Bits.{agent}
 use Rattle.nob_rows.specs.Tree.{next_of}
 use Rattle.nob_rows.proofs.Below.{walk_plus}

@@ -1,4 +1,3 @@
-use Rattle.std.proofs.Common.{◌≡◌}
 use Rattle.nob_rows.specs.Tree.{Meets}
 use Rattle.nob_rows.proofs.Owners.{owned, not_owned}
 use Rattle.nob_rows.proofs.rows.Rows.has_of.Goals as goal
