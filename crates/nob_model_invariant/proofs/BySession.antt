@@ -22,8 +22,9 @@ use Rattle.nob_model_work.specs.Gifts.{gifts_of, gifts}
 use Rattle.nob_model_history.specs.Histories.{history_of}
 use Rattle.nob_model_history.specs.Ends.{items_to, payload_of, kind_of, with_sends, own_calls, call_of_closing, calls_at}
 use Rattle.nob_model_history.specs.Transit.{sent}
+use Rattle.nob_model_history.specs.Premises.{NumbersRise}
 use Rattle.nob_model_history.proofs.Sessions.{sends_number, number_is}
-use Rattle.nob_model_history.proofs.Numbered.{items_sent_in, gifts_sent_in, gifts_sent_now, payloads_handed}
+use Rattle.nob_model_history.proofs.Numbered.{items_sent_in, gifts_sent_in, gifts_sent_now, rise_before, payloads_handed}
 use Rattle.nob_model_journal.specs.Journals.{deeds_at, number_at, are_in_one, sent_in, sent_now, sent_to, acted_during}
 use Rattle.nob_model_journal.specs.Runs.{WorldRun}
 use Rattle.nob_model_invariant.specs.Typed.{AreOfTypes}
@@ -153,16 +154,16 @@ calls_stay s n p k deed D other =
     by (inl elsewhere) = sends_left k given before (ap (λ (m : ℕ). m == k) (number_is s n p D) ∙ elsewhere)
     by (inr none) = ap (λ more. up_to k (with_sends (items_to p more) before)) none
 
--- what was handed up to the end of a session are the payloads of what was sent in it
-pub handed_in : (s n p k : ℕ) (D : List Deed) → handed (up_to k (calls_at p (history_of s n D))) ≡ map payload_of (items_sent_in p k (sent (history_of s n D)))
-handed_in s n p k [] = refl
-handed_in s n p k (deed ∷ D) = by (number p (deed ∷ D) == k) refl (handed_in s n p k D)
+-- where numbers rise, what was handed up to the end of a session are the payloads of what was sent in it
+pub handed_in : (s n p k : ℕ) (D : List Deed) → NumbersRise D → handed (up_to k (calls_at p (history_of s n D))) ≡ map payload_of (items_sent_in p k (sent (history_of s n D)))
+handed_in s n p k [] rise = refl
+handed_in s n p k (deed ∷ D) rise = by (number p (deed ∷ D) == k) refl (handed_in s n p k D (rise_before deed D rise))
   where
     by : (b : Bool) → (number p (deed ∷ D) == k) ≡ b → handed (up_to k (calls_at p (history_of s n D))) ≡ map payload_of (items_sent_in p k (sent (history_of s n D))) → handed (up_to k (calls_at p (history_of s n (deed ∷ D)))) ≡ map payload_of (items_sent_in p k (sent (history_of s n (deed ∷ D))))
     by true is before =
         let here : number p (deed ∷ D) ≡ k = eqb-true (number p (deed ∷ D)) k is in
         ap handed (up_to_present k (calls_at p (history_of s n (deed ∷ D))) (number_is s n p (deed ∷ D) ∙ here))
-        ∙ payloads_handed s n p (deed ∷ D)
+        ∙ payloads_handed s n p (deed ∷ D) rise
         ∙ ap (λ (m : ℕ). map payload_of (items_sent_in p m (sent (history_of s n (deed ∷ D))))) here
     by false other before =
         ap handed (calls_stay s n p k deed D other)

@@ -9,10 +9,9 @@ use Rattle.nob_model_types.specs.declared.entry.Entry.{Entry}
 use Rattle.nob_model_types.specs.declared.deed.Deed.{Deed}
 use Rattle.nob_model_types.specs.declared.deed.Deed.TheVariants as did
 use Rattle.nob_model_types.specs.Sessions.{closed, number, item_at, acted}
-use Rattle.nob_model_work.specs.Work.{work}
-use Rattle.nob_model_work.specs.Gifts.{gifts_of, gifts}
 use Rattle.nob_model_history.specs.Histories.{history_of}
-use Rattle.nob_model_history.specs.Transit.{with_gifts, sent}
+use Rattle.nob_model_history.specs.Transit.{sent}
+use Rattle.nob_model_history.specs.Premises.{NumbersRise}
 use Rattle.nob_model_history.proofs.Numbered.{items_sent_in}
 use Rattle.nob_model_history.proofs.Sessions.{opens, number_kept}
 use Rattle.nob_model.specs.Lists.{IsRightDeed, AreRightDeeds}
@@ -136,20 +135,11 @@ pub acted_anew : (p : ℕ) (deed : Deed) (D : List Deed) → opens p deed ≡ tr
 acted_anew p (did.Open q k) D own = ap (λ (b : Bool). cond b [] (acted p D)) own
 acted_anew p deed D own = absurd (never own)
 
--- it gives nothing
-pub gives_nothing : (s n p : ℕ) (deed : Deed) (D : List Deed) → opens p deed ≡ true → gifts s n deed D (work s n D) ≡ []
-unfolding gifts gifts_of
-gives_nothing s n p (did.Open q k) D own = refl
-gives_nothing s n p deed D own = absurd (never own)
-
--- nothing was sent
-pub sent_anew : (s n p : ℕ) (limits : Limits) (deed : Deed) (D : List Deed) → AreRightDeeds s n limits (deed ∷ D) → opens p deed ≡ true → items_sent_in p (number p (deed ∷ D)) (sent (history_of s n (deed ∷ D))) ≡ []
-sent_anew s n p limits deed D right own =
-    let above : number p D < number p (deed ∷ D) = opening_above s n p limits deed D right.0 own in
-    sent_stays_by (gives_nothing s n p deed D own) ∙ none_sent_above s n p (number p (deed ∷ D)) limits D right.1 above
-  where
-    sent_stays_by : gifts s n deed D (work s n D) ≡ [] → items_sent_in p (number p (deed ∷ D)) (sent (history_of s n (deed ∷ D))) ≡ items_sent_in p (number p (deed ∷ D)) (sent (history_of s n D))
-    sent_stays_by none = ap (λ more. items_sent_in p (number p (deed ∷ D)) (with_gifts D (sent (history_of s n D)) more)) none
+-- the numbers of sessions rise
+pub numbers_rise : (s n : ℕ) (limits : Limits) (D : List Deed) → AreRightDeeds s n limits D → NumbersRise D
+numbers_rise s n limits [] right = tt
+numbers_rise s n limits (did.Open q k ∷ D) right = ((open_told s n q k limits D right.0).above, numbers_rise s n limits D right.1)
+numbers_rise s n limits (_ ∷ D) right = numbers_rise s n limits D right.1
 
 -- so nothing was acted on in a session that an entry opens
 pub none_acted_new : (n a b : ℕ) (limits : ℕ → Limits) (entry : Entry) (J : List Entry) → WorldRun n limits (entry ∷ J) → number_at b a J < number_at b a (entry ∷ J) → acted_in a b (number_at b a (entry ∷ J)) (entry ∷ J) ≡ []
