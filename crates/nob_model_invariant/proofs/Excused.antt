@@ -20,7 +20,7 @@ use Rattle.nob_model_types.specs.declared.turns.OwnerAnswer.{OwnerAnswer}
 use Rattle.nob_model_types.specs.declared.turns.OwnerAnswer.TheVariants as said
 use Rattle.nob_model_types.specs.Sessions.{closed, number, item_at}
 use Rattle.nob_model_types.specs.Objects.{is_live}
-use Rattle.nob_model_types.specs.Turns.{turns, is_own, is_granted, is_pending, is_refused, is_no, with_clean, carries}
+use Rattle.nob_model_types.specs.Turns.{no_turns, turns, is_own, is_granted, is_pending, is_refused, is_no, with_clean, carries}
 use Rattle.nob_model_types.specs.Messages.{is_of}
 use Rattle.nob_model_work.specs.Work.{work}
 use Rattle.nob_model_history.specs.declared.transit.SentItem.{SentItem}
@@ -422,6 +422,14 @@ clean_refused n b limits J rep other before right refused = by (is_same rep othe
 deed_refused : (n b : ℕ) (limits : ℕ → Limits) (J : List Entry) (rep : WireRep) (deed : Deed) → WorldRun n limits J → AreOfTypes J → RefusedExcused n J → AreRightDeeds b n (limits b) (deed ∷ deeds_at b J) → is_refused (turns b n rep (deed ∷ deeds_at b J)) ≡ true → AllByRecursion (λ copy. is_excuse n b rep J copy ≡ true) (sources b n rep (deed ∷ deeds_at b J))
 deed_refused n b limits J rep (did.Act p k) run typed before right refused = act_refused n p b k limits J rep run typed before right refused
 deed_refused n b limits J rep (did.Clean other) run typed before right refused = clean_refused n b limits J rep other before right refused
+deed_refused n b limits J rep (did.Open q k) run typed before right refused = by (q == rep.owner) refused
+  where
+    D : List Deed
+    D = deeds_at b J
+
+    by : (own : Bool) → is_refused (cond own no_turns (turns b n rep D)) ≡ true → AllByRecursion (λ copy. is_excuse n b rep J copy ≡ true) (cond own [] (sources b n rep D))
+    by true is = tt
+    by false is = before b rep is
 deed_refused n b limits J rep deed run typed before right refused = before b rep refused
 
 -- in every run each copy of what was refused is excused

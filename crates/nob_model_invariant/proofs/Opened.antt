@@ -1,8 +1,8 @@
 -- What a right Open tells of what was done before: the session had closed, the new number is above the one before, and nothing of
 -- the peer's objects is left.
-use Rattle.std.proofs.Common.{◌≡◌, ℕ, ◌+◌, ◌≤◌, max, not, Bool, true, false, List, ◌∷◌, Option, Some, None, Ok, Err, refl, sym, ap, subst, ◌∙◌, arith}
+use Rattle.std.proofs.Common.{◌≡◌, ℕ, ◌+◌, ◌≤◌, max, not, Bool, true, false, cond, List, ◌∷◌, Option, Some, None, Ok, Err, refl, sym, ap, subst, ◌∙◌, arith}
 use Rattle.std.specs.Prelude.{◌==◌, ◌<◌, nat_lt}
-use Rattle.std.proofs.lemmas.Bool.{not-false}
+use Rattle.std.proofs.lemmas.Bool.{eqb-true, not-false, both_ways}
 use Rattle.std.proofs.Math.Nat.{le-max_left}
 use Rattle.nob_ids.specs.declared.limits.Limits.{Limits}
 use Rattle.nob_model_session.specs.End.{last_session, seen}
@@ -54,3 +54,30 @@ open_of s n q k D e =
 pub open_told : (s n q k : ℕ) (limits : Limits) (D : List Deed) → IsRightDeed s n limits (did.Open q k) D → OpenTold s n q k D
 unfolding right_after
 open_told s n q k limits D right = open_of s n q k D (was_answered s n limits (did.Open q k) D right)
+
+-- ---- numbers
+
+-- the number of a session that is opened
+pub opened_number : (p q k : ℕ) (D : List Deed) → (q == p) ≡ true → number p (did.Open q k ∷ D) ≡ k
+opened_number p q k D own = ap (λ (b : Bool). cond b k (number p D)) own
+
+-- and of each other session
+pub other_number : (p q k : ℕ) (D : List Deed) → (q == p) ≡ false → number p (did.Open q k ∷ D) ≡ number p D
+other_number p q k D other = ap (λ (b : Bool). cond b k (number p D)) other
+
+-- a right Open of the session with p opens one that is above
+pub opens_above : (s n p q k : ℕ) (limits : Limits) (D : List Deed) → IsRightDeed s n limits (did.Open q k) D → (q == p) ≡ true → number p D < number p (did.Open q k ∷ D)
+opens_above s n p q k limits D right own =
+    let above = (open_told s n q k limits D right).above in
+    let is = opened_number p q k D own in
+    let same = ap (λ (r : ℕ). number r D) (eqb-true q p own) in
+    omega (arith, above, is, same)
+
+-- a session that is open isn't opened anew
+pub open_stays : (s n p : ℕ) (limits : Limits) (deed : Deed) (D : List Deed) → IsRightDeed s n limits deed D → closed p D ≡ false → number p (deed ∷ D) ≡ number p D
+open_stays s n p limits (did.Open q k) D right up = by (q == p) refl
+  where
+    by : (own : Bool) → (q == p) ≡ own → cond own k (number p D) ≡ number p D
+    by true own = absurd (both_ways (closed p D) up (ap (λ (r : ℕ). closed r D) (sym (eqb-true q p own)) ∙ (open_told s n q k limits D right).shut))
+    by false other = refl
+open_stays s n p limits deed D right up = refl
