@@ -11,7 +11,6 @@ use Rattle.nob_model_types.specs.declared.deed.Deed.TheVariants as did
 use Rattle.nob_model_types.specs.Sessions.{closed, number, item_at, acted}
 use Rattle.nob_model_history.specs.Histories.{history_of}
 use Rattle.nob_model_history.specs.Transit.{sent}
-use Rattle.nob_model_history.specs.Premises.{NumbersRise}
 use Rattle.nob_model_history.proofs.Numbered.{items_sent_in}
 use Rattle.nob_model_history.proofs.Sessions.{opens, number_kept}
 use Rattle.nob_model.specs.Lists.{IsRightDeed, AreRightDeeds}
@@ -134,12 +133,6 @@ acted_from_is n a b limits J run = acted_is b n a (limits b) (deeds_at b J) (rig
 pub acted_anew : (p : ℕ) (deed : Deed) (D : List Deed) → opens p deed ≡ true → acted p (deed ∷ D) ≡ []
 acted_anew p (did.Open q k) D own = ap (λ (b : Bool). cond b [] (acted p D)) own
 acted_anew p deed D own = absurd (never own)
-
--- the numbers of sessions rise
-pub numbers_rise : (s n : ℕ) (limits : Limits) (D : List Deed) → AreRightDeeds s n limits D → NumbersRise D
-numbers_rise s n limits [] right = tt
-numbers_rise s n limits (did.Open q k ∷ D) right = ((open_told s n q k limits D right.0).above, numbers_rise s n limits D right.1)
-numbers_rise s n limits (_ ∷ D) right = numbers_rise s n limits D right.1
 
 -- so nothing was acted on in a session that an entry opens
 pub none_acted_new : (n a b : ℕ) (limits : ℕ → Limits) (entry : Entry) (J : List Entry) → WorldRun n limits (entry ∷ J) → number_at b a J < number_at b a (entry ∷ J) → acted_in a b (number_at b a (entry ∷ J)) (entry ∷ J) ≡ []

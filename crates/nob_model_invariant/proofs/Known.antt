@@ -1,13 +1,11 @@
 -- Each reference of a message that waits is the space's own, lost, or has a surrogate.
 use Rattle.std.proofs.Common.{◌≡◌, ℕ, ◌≤◌, ◌&&◌, ◌||◌, not, Bool, true, false, cond, List, [], ◌∷◌, map, Option, Some, None, refl, sym, ap, subst, ◌∙◌}
-use Rattle.std.specs.Prelude.{◌==◌}
 use Rattle.std.specs.List.{AllByRecursion, list_any}
-use Rattle.std.proofs.lemmas.Bool.{eq-eqb, ne_eqb, and_parts, and_from, or_parts, or_left, or_right, both_ways}
-use Rattle.nob_ids.specs.Names.{is_same, is_counted}
+use Rattle.std.proofs.lemmas.Bool.{and_parts, or_left, or_right, both_ways}
+use Rattle.nob_ids.specs.Names.{is_same}
 use Rattle.nob_ids.specs.declared.limits.Limits.{Limits}
 use Rattle.nob_ids.specs.declared.wire_rep.WireRep.{WireRep}
 use Rattle.nob_item.specs.Kinds.{counted_in}
-use Rattle.nob_pickle.specs.Values.{refs_in}
 use Rattle.nob_item.specs.declared.item.Item.{Item}
 use Rattle.nob_item.specs.declared.item.Item.TheVariants as items
 use Rattle.nob_model_types.specs.declared.deed.Deed.{Deed}
@@ -26,11 +24,10 @@ use Rattle.nob_model_history.specs.declared.history.History.{History}
 use Rattle.nob_model_history.specs.Histories.{history_of}
 use Rattle.nob_model_history.specs.Holds.{times, is_held, lent_in, target_lent, copies_lent, loans_of}
 use Rattle.nob_model_history.specs.Premises.{TookTurns, AnswersPending}
-use Rattle.nob_model_history.specs.Transit.{is_idle, by_last_dirty, pinned}
+use Rattle.nob_model_history.specs.Transit.{is_idle, by_last_dirty}
 use Rattle.nob_model_history.proofs.Dirtying.{same_self}
 use Rattle.nob_model_history.proofs.Turning.{shapes, after_answer, same_ref, wanted_none}
 use Rattle.nob_model_history.proofs.Sessions.{opens}
-use Rattle.nob_model.specs.Opening.{is_owned_by, holds_any_of, carries_any_of}
 use Rattle.nob_model.specs.Right.{right_after}
 use Rattle.nob_model.specs.Lists.{IsRightDeed, AreRightDeeds}
 use Rattle.nob_model.proofs.Accepted.{clean_tells, found_passes}
@@ -38,11 +35,11 @@ use Rattle.nob_model.proofs.Doing.{was_answered}
 use Rattle.nob_model.proofs.Lending.{NeverLost, all_lent, lost_stays}
 use Rattle.nob_model.proofs.Made.{all_fixed, work_fixed}
 use Rattle.nob_model.proofs.Premises.{took_turns}
+use Rattle.nob_model.proofs.Reopening.{open_uncarried}
 use Rattle.nob_model.proofs.Waiting.{all_weaker}
 use Rattle.nob_model_holdings.proofs.Granted.{gives_up, held_kept, all_stand, hand_apart, copies_apart}
 use Rattle.nob_model_holdings.proofs.Holdings.{lent_held}
-use Rattle.nob_model_holdings.proofs.Lists.{all_pass, all_split}
-use Rattle.nob_model_invariant.proofs.Opened.{open_told}
+use Rattle.nob_model_holdings.proofs.Lists.{all_split}
 use Rattle.nob_model_invariant.proofs.Settling.{waits_more}
 use Rattle.nob_model_invariant.specs.LossInvariant.{is_known}
 use Rattle.nob_model_invariant.proofs.Standing.{granted_stands, refused_stands, answered_pending, was_idle}
@@ -83,7 +80,7 @@ known_by false false stands lost_now stands_now f g is = or_right lost_now stand
 
 -- so what is known stays known until it is given up
 known_on : (s n : ℕ) (rep : WireRep) (deed : Deed) (D : List Deed) → opens rep.owner deed ≡ false → TookTurns s n (deed ∷ D) → gives_up rep deed ≡ false → is_known s n rep D ≡ true → is_known s n rep (deed ∷ D) ≡ true
-known_on s n rep deed D same took kept is = known_by (is_own s rep) (is_lost s n rep D) (is_standing (turns s n rep D)) (is_lost s n rep (deed ∷ D)) (is_standing (turns s n rep (deed ∷ D))) (lost_stays s n rep deed D same took) (standing_on s n rep deed D same took kept) is
+known_on s n rep deed D same took kept is = known_by (is_own s rep) (is_lost s n rep D) (is_standing (turns s n rep D)) (is_lost s n rep (deed ∷ D)) (is_standing (turns s n rep (deed ∷ D))) (lost_stays s n rep deed D took same) (standing_on s n rep deed D same took kept) is
 
 -- ---- what a message that waits carries isn't given up
 
@@ -124,7 +121,7 @@ copy_known_on s n limits deed D right copy same its = by copy.loan refl
     by : (loan : Loan) → copy.loan ≡ loan → is_known s n copy.rep (deed ∷ D) ≡ true
     by loans.Due is = unless is (gives_up copy.rep deed) refl
     by loans.Lent is = known_on s n copy.rep deed D same took (held_kept s n limits copy.rep deed D right.0 (lent_held s n limits copy.rep D right.1 (its.lent is))) its.known
-    by loans.Never is = or_right (is_own s copy.rep) _ (or_left (is_lost s n copy.rep (deed ∷ D)) _ (lost_stays s n copy.rep deed D same took (its.never is)))
+    by loans.Never is = or_right (is_own s copy.rep) _ (or_left (is_lost s n copy.rep (deed ∷ D)) _ (lost_stays s n copy.rep deed D took same (its.never is)))
 
 -- ---- the messages that wait
 
@@ -157,58 +154,9 @@ waiting_lent s n D =
 
 -- ---- no session is opened anew with the owner of what waits
 
--- an item carries what is counted
-items_counted : (item : Item) → AllByRecursion (λ rep. is_counted rep ≡ true) (counted_in item)
-items_counted (items.Call call target method value) = all_pass is_counted (refs_in value)
-items_counted (items.Reply call status value) = all_pass is_counted (refs_in value)
-items_counted (items.Settle item) = tt
-items_counted (items.Dirty index) = tt
-items_counted (items.DirtyOk index) = tt
-items_counted (items.DirtyNo index) = tt
-items_counted (items.Clean index) = tt
-
--- all references of a message are counted
-abbrev AreCounted : Message → Type 0
-AreCounted m = AllByRecursion (λ (copy : RefCopy). is_counted copy.rep ≡ true) m.copies
-
-counted_kept : (s n : ℕ) (D : List Deed) (m : Message) → AreCounted m → AreCounted (message_after s n D m)
-unfolding message_after copy_after
-counted_kept s n D m all = those m.copies all
-  where
-    those : (its : List RefCopy) → AllByRecursion (λ (copy : RefCopy). is_counted copy.rep ≡ true) its → AllByRecursion (λ (copy : RefCopy). is_counted copy.rep ≡ true) (map (λ copy. copy_after s n D copy) its)
-    those [] all = tt
-    those (copy ∷ its) all = (all.0, those its all.1)
-
-new_counted : (s n p k : ℕ) (item : Item) (D : List Deed) → AreCounted (new_message s n p k item D)
-unfolding new_copy
-new_counted s n p k item D = those (counted_in item) (items_counted item)
-  where
-    those : (reps : List WireRep) → AllByRecursion (λ rep. is_counted rep ≡ true) reps → AllByRecursion (λ (copy : RefCopy). is_counted copy.rep ≡ true) (map (λ rep. new_copy s n D rep) reps)
-    those [] all = tt
-    those (rep ∷ reps) all = (all.0, those reps all.1)
-
-all_counted : (s n : ℕ) (D : List Deed) → AllByRecursion AreCounted (work s n D).waiting
-all_counted s n [] = tt
-all_counted s n (deed ∷ D) = waits_more AreCounted s n deed D (counted_kept s n (deed ∷ D)) (λ p k item is found some. new_counted s n p k item (did.Act p k ∷ D)) (all_counted s n D)
-
-none_passes : {X : Type 0} (test : X → Bool) (xs : List X) → list_any test xs ≡ false → AllByRecursion (λ x. test x ≡ false) xs
-none_passes test [] none = tt
-none_passes test (x ∷ xs) none = let parts = or_parts (test x) (list_any test xs) none in (parts.0, none_passes test xs parts.1)
-
 -- a deed opens no session anew with the owner of a reference of a message
 abbrev NotOpened : Deed → Message → Type 0
 NotOpened deed m = AllByRecursion (λ (copy : RefCopy). opens copy.rep.owner deed ≡ false) m.copies
-
-owner_other : (q o : ℕ) (counted : Bool) → counted ≡ true → (o == q && counted) ≡ false → (q == o) ≡ false
-owner_other q o counted is none = ne_eqb q o (λ same. both_ways (o == q && counted) none (and_from (o == q) counted (eq-eqb o q (sym same)) is))
-
-copies_other : (q k : ℕ) (its : List RefCopy) → AllByRecursion (λ (copy : RefCopy). is_counted copy.rep ≡ true) its → AllByRecursion (λ (copy : RefCopy). is_owned_by q copy.rep ≡ false) its → AllByRecursion (λ (copy : RefCopy). opens copy.rep.owner (did.Open q k) ≡ false) its
-copies_other q k [] counted none = tt
-copies_other q k (copy ∷ its) counted none = (owner_other q copy.rep.owner (is_counted copy.rep) counted.0 none.0, copies_other q k its counted.1 none.1)
-
-messages_other : (q k : ℕ) (ms : List Message) → AllByRecursion AreCounted ms → AllByRecursion (λ m. carries_any_of q m ≡ false) ms → AllByRecursion (NotOpened (did.Open q k)) ms
-messages_other q k [] counted none = tt
-messages_other q k (m ∷ ms) counted none = (copies_other q k m.copies counted.0 (none_passes (λ (copy : RefCopy). is_owned_by q copy.rep) m.copies none.0), messages_other q k ms counted.1 none.1)
 
 never_opened : (deed : Deed) → ((p : ℕ) → opens p deed ≡ false) → (ms : List Message) → AllByRecursion (NotOpened deed) ms
 never_opened deed never [] = tt
@@ -219,11 +167,7 @@ never_opened deed never (m ∷ ms) = (those m.copies, never_opened deed never ms
     those (copy ∷ its) = (never copy.rep.owner, those its)
 
 none_opened : (s n : ℕ) (limits : Limits) (deed : Deed) (D : List Deed) → IsRightDeed s n limits deed D → AllByRecursion (NotOpened deed) (work s n D).waiting
-none_opened s n limits (did.Open q k) D right =
-    let h : History = history_of s n D in
-    let unheld = (open_told s n q k limits D right).unheld in
-    messages_other q k (work s n D).waiting (all_counted s n D)
-    (none_passes (carries_any_of q) (work s n D).waiting (or_parts (holds_any_of s q h || list_any (is_owned_by q) (pinned h)) (list_any (carries_any_of q) (work s n D).waiting) unheld).1)
+none_opened s n limits (did.Open q k) D right = open_uncarried s n limits q k D right
 none_opened s n limits deed D right = never_opened deed (λ p. refl) (work s n D).waiting
 
 message_known_on : (s n : ℕ) (limits : Limits) (deed : Deed) (D : List Deed) → AreRightDeeds s n limits (deed ∷ D) → (its : List RefCopy)

@@ -35,6 +35,7 @@ use Rattle.nob_model.proofs.Doing.{was_answered}
 use Rattle.nob_model.proofs.Accepted.{act_tells}
 use Rattle.nob_model.proofs.Premises.{in_turn, front_item}
 use Rattle.nob_model.proofs.Calling.{calls_law}
+use Rattle.nob_model.proofs.Reopening.{numbers_rise}
 use Rattle.nob_model.proofs.Carrying.{all_filter}
 use Rattle.nob_model_journal.specs.Journals.{deeds_at, history_at, number_at, sent_in, sent_to, acted_during, acted_in, acted_from}
 use Rattle.nob_model_journal.specs.Runs.{WorldRun}
@@ -47,7 +48,7 @@ use Rattle.nob_model_invariant.proofs.Reading.{payload_back}
 use Rattle.nob_model_invariant.proofs.Giving.{SentFits, ActsOnWhole, AllFit, fits_more, fits_none}
 use Rattle.nob_model_invariant.proofs.Entries.{grows, right_deeds_at}
 use Rattle.nob_model_invariant.proofs.BySession.{sent_grows, handed_in}
-use Rattle.nob_model_invariant.proofs.EachSession.{numbers_rise, acted_from_is}
+use Rattle.nob_model_invariant.proofs.EachSession.{acted_from_is}
 use Rattle.nob_model_invariant.proofs.Pairs.{are_paired}
 use Rattle.nob_model_invariant.proofs.Carried.{frames_carried}
 
