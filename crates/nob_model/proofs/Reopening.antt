@@ -70,13 +70,13 @@ absent : (test : WireRep → Bool) (rep : WireRep) (reps : List WireRep) → tes
 absent test rep [] passes none = refl
 absent test rep (other ∷ reps) passes none = absent_step test rep other (filter (is_same rep) reps) passes none.0 (absent test rep reps passes none.1) (is_same rep other) refl
 
+counted_if : (b : Bool) (rep : WireRep) (kept : List WireRep) → is_counted rep ≡ b → AllByRecursion (λ (other : WireRep). is_counted other ≡ true) kept → AllByRecursion (λ (other : WireRep). is_counted other ≡ true) (cond b (rep ∷ kept) kept)
+counted_if true rep kept is rest = (is, rest)
+counted_if false rep kept is rest = rest
+
 filter_counted : (reps : List WireRep) → AllByRecursion (λ (rep : WireRep). is_counted rep ≡ true) (filter is_counted reps)
 filter_counted [] = tt
-filter_counted (rep ∷ reps) = keep (is_counted rep) refl
-  where
-    keep : (b : Bool) → is_counted rep ≡ b → AllByRecursion (λ (other : WireRep). is_counted other ≡ true) (cond b (rep ∷ filter is_counted reps) (filter is_counted reps))
-    keep true is = (is, filter_counted reps)
-    keep false is = filter_counted reps
+filter_counted (rep ∷ reps) = counted_if (is_counted rep) rep (filter is_counted reps) refl (filter_counted reps)
 
 -- the counted references of an item are counted
 pub counted_are : (item : Item) → AllByRecursion (λ (rep : WireRep). is_counted rep ≡ true) (counted_in item)

@@ -142,11 +142,11 @@ pub copies_acted : (s n : ℕ) (limits : Limits) (rep : WireRep) (D : List Deed)
 copies_acted s n limits rep [] right = tt
 copies_acted s n limits rep (did.Act p k ∷ D) right = new_copied s n limits rep p k D right (item_at p k D) refl (copies_on s n limits (did.Act p k) D right.0 rep refl (copies_acted s n limits rep D right.1))
 copies_acted s n limits rep (did.Clean other ∷ D) right = cleaned (IsCopyOf rep (did.Clean other ∷ D)) (is_same rep other && (turns s n rep D).asks) (sources s n rep D) (copies_on s n limits (did.Clean other) D right.0 rep refl (copies_acted s n limits rep D right.1))
-copies_acted s n limits rep (did.Open q k ∷ D) right = by (q == rep.owner) refl
+copies_acted s n limits rep (did.Open q k ∷ D) right = by (copies_acted s n limits rep D right.1) (q == rep.owner) refl
   where
-    by : (own : Bool) → (q == rep.owner) ≡ own → AllByRecursion (IsCopyOf rep (did.Open q k ∷ D)) (cond own [] (sources s n rep D))
-    by true own = tt
-    by false other = copies_on s n limits (did.Open q k) D right.0 rep (other_number rep.owner q k D other) (copies_acted s n limits rep D right.1)
+    by : AllByRecursion (IsCopyOf rep D) (sources s n rep D) → (own : Bool) → (q == rep.owner) ≡ own → AllByRecursion (IsCopyOf rep (did.Open q k ∷ D)) (cond own [] (sources s n rep D))
+    by before true own = tt
+    by before false other = copies_on s n limits (did.Open q k) D right.0 rep (other_number rep.owner q k D other) before
 copies_acted s n limits rep (deed ∷ D) right = copies_on s n limits deed D right.0 rep refl (copies_acted s n limits rep D right.1)
 
 -- ---- a message that is settled carries nothing that is pending

@@ -43,8 +43,7 @@ use Rattle.nob_model_invariant.specs.Asking.{answer_in, answers_among, items_amo
 use Rattle.nob_model_invariant.specs.Settles.{settle_in, settles_among, is_in}
 use Rattle.nob_model_invariant.specs.Typed.{AreOfTypes}
 use Rattle.nob_model_invariant.proofs.Bundles.{settled_in}
-use Rattle.nob_model_invariant.proofs.BySession.{acted_from_is}
-use Rattle.nob_model_invariant.proofs.EachSession.{GoesOn, goes_on}
+use Rattle.nob_model_invariant.proofs.EachSession.{GoesOn, goes_on, acted_from_is}
 use Rattle.nob_model_invariant.proofs.Numbers.{IsCome, owners_reached, deed_come, copies_come}
 use Rattle.nob_model_invariant.proofs.Entries.{grows, grows_own, right_deeds_at}
 use Rattle.nob_model_holdings.proofs.Holdings.{pins_stand}
@@ -278,7 +277,7 @@ new_excused n p b k limits J rep item run typed right is refused carried =
     let there : slice_get (with_numbers 1 (sent_to n p b J)) (k - 1) ≡ Some (k, Some item) =
     ap (slice_get (with_numbers 1 (sent_to n p b J))) place ∙ numbered_at 1 (sent_to n p b J) t next.item next.was_sent ∙ ap (λ (m : ℕ). Some (m, Some next.item)) (let one : 1 + t ≡ k = omega (arith, number) in one) ∙ ap (λ (i : Item). Some (k, Some i)) same in
     unsettled_excused n b limits J rep (new_source p k (deeds_at b J)) item run typed (refused_denied n limits J run typed b rep refused) there carried
-    (above_none t k (settles_among (sent_now n b p J)) (subst (λ pairs. AllByRecursion (λ j. j ≤ length pairs) (settles_among (sent_now n b p J))) (sym (acted_from_is p b J)) ((settlements n limits J run).were_acted p b (number_at b p J))) number)
+    (above_none t k (settles_among (sent_now n b p J)) (subst (λ pairs. AllByRecursion (λ j. j ≤ length pairs) (settles_among (sent_now n b p J))) (sym (acted_from_is n p b limits J run)) ((settlements n limits J run).were_acted p b (number_at b p J))) number)
 
 -- ---- a loss
 

@@ -50,8 +50,8 @@ use Rattle.nob_model_invariant.specs.Asking.{ask_in, asks_among, items_among, di
 use Rattle.nob_model_holdings.proofs.Lists.{all_map, all_both, all_pass, place_in_whole, some_same}
 use Rattle.nob_model_holdings.proofs.Typing.{next_none, refs_held}
 use Rattle.nob_model_invariant.proofs.Entries.{grows, right_deeds_at}
-use Rattle.nob_model_invariant.proofs.BySession.{sent_in_more, sent_in_same, sent_grows, sent_one, acted_from_is}
-use Rattle.nob_model_invariant.proofs.EachSession.{GoesOn, goes_on, rises, none_acted_new, sent_apart}
+use Rattle.nob_model_invariant.proofs.BySession.{sent_in_more, sent_in_same, sent_grows, sent_one}
+use Rattle.nob_model_invariant.proofs.EachSession.{GoesOn, goes_on, rises, acted_from_is, none_acted_new, sent_apart}
 use Rattle.nob_model_invariant.proofs.Opened.{opens_above}
 use Rattle.nob_model_invariant.proofs.Order.{ActsNow, IsNextOf, acts_on_next, all_fit, in_order_now}
 use Rattle.nob_model_holdings.proofs.Granted.{is_owned, held_owned}
@@ -415,7 +415,7 @@ guarded_opens : (n c o x : ℕ) (limits : ℕ → Limits) → c ≢ o → (entry
 guarded_opens n c o x limits apart entry J run typed above =
     let k : ℕ = number_at o c (entry ∷ J) in
     let entered : Bool = is_entered o x c (deeds_at o (entry ∷ J)) in
-    let none : acted_from c o (entry ∷ J) ≡ [] = acted_from_is c o (entry ∷ J) ∙ none_acted_new n c o limits entry J run above in
+    let none : acted_from c o (entry ∷ J) ≡ [] = acted_from_is n c o limits (entry ∷ J) run ∙ none_acted_new n c o limits entry J run above in
     let same = sent_apart n c o limits entry J apart above k in
     subst (λ pairs. AreGuarded o x entered (drop (length pairs) (sent_in n c o k (entry ∷ J)))) (sym none)
     (guarded_weaker o x false entered (sent_in n c o k (entry ∷ J)) (λ is. absurd (let clash : false ≡ true = is in cc))

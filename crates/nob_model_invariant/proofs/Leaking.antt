@@ -227,11 +227,11 @@ in_settled p k (did.Act q j ∷ D) is = by (in_settled p k D) (q == p) refl is
     by : (is_in k (settles_among (items_among (acted p D))) ≡ true → is_settled p k D ≡ true) → (own : Bool) → (q == p) ≡ own → is_in k (settles_among (items_among (cond own (acted p D ++ (j, item_at p j D) ∷ []) (acted p D)))) ≡ true → (((q == p) && is_settle_of k (item_at q j D)) || is_settled p k D) ≡ true
     by others true own is = either others own (or_cases _ _ (sym (settles_push k (acted p D) j (item_at p j D)) ∙ is))
     by others false own is = or_right _ _ (others is)
-in_settled p k (did.Open q j ∷ D) is = by (q == p) is
+in_settled p k (did.Open q j ∷ D) is = by (in_settled p k D) (q == p) is
   where
-    by : (own : Bool) → is_in k (settles_among (items_among (cond own [] (acted p D)))) ≡ true → cond own false (is_settled p k D) ≡ true
-    by true there = cc
-    by false there = in_settled p k D there
+    by : (is_in k (settles_among (items_among (acted p D))) ≡ true → is_settled p k D ≡ true) → (own : Bool) → is_in k (settles_among (items_among (cond own [] (acted p D)))) ≡ true → cond own false (is_settled p k D) ≡ true
+    by before true there = cc
+    by before false there = before there
 in_settled p k (deed ∷ D) is = in_settled p k D is
 
 waits_or : (k : ℕ) (a : ℕ) (ms : List Message) (other : Bool) → ms ≡ [] → (is_waiting a k ms || other) ≡ true → other ≡ true
