@@ -145,7 +145,7 @@ carried_later before after longer frame carried = record {
 }
 
 -- whether a call opened a session anew
-reopens : EndEntry → Bool
+abbrev reopens : EndEntry → Bool
 reopens (ends.Reopen k (Ok done)) = true
 reopens (_) = false
 
