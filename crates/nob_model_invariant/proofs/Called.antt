@@ -43,7 +43,8 @@ use Rattle.nob_model_invariant.specs.Asking.{items_among}
 use Rattle.nob_model_invariant.specs.Counting.{count_of, makes_call}
 use Rattle.nob_model_invariant.proofs.Counts.{none_some, one_if, count_first, count_append, count_found, any_mapped, any_weaker, any_kept, any_before, any_last}
 use Rattle.nob_model_invariant.proofs.BySession.{sent_now_more}
-use Rattle.nob_model_invariant.proofs.EachSession.{closed_kept, opening_above}
+use Rattle.nob_model_invariant.proofs.Opened.{opens_above}
+use Rattle.nob_model_invariant.proofs.EachSession.{closed_kept}
 use Rattle.nob_model_invariant.proofs.Anew.{none_sent_new}
 use Rattle.nob_model_invariant.proofs.Fair.{gives, no_second, count_given, notes_give}
 
@@ -426,7 +427,7 @@ module _ (p k : ℕ) where
     where
       by : (b : Bool) → opens p deed ≡ b → (1 ≤ calls_now s n D → IsAnswered s n D) → IsAnswered s n (deed ∷ D)
       by true own before =
-          let none = ap (count_of (makes_call k)) (none_sent_new s n p limits deed D right (opening_above s n p limits deed D right.0 own)) in
+          let none = ap (count_of (makes_call k)) (none_sent_new s n p limits deed D right (opens_above s n p limits deed D right.0 own)) in
           absurd (omega (arith, some, none))
       by false kept before =
           let more = now_more s n deed D (number_kept p deed D kept) in

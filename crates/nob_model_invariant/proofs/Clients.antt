@@ -18,6 +18,7 @@ use Rattle.nob_model_types.specs.Turns.{no_turns, turns, turns_after, is_pending
 use Rattle.nob_model_work.specs.Work.{work}
 use Rattle.nob_model_work.specs.Gifts.{gifts, gifts_of_act}
 use Rattle.nob_model_history.specs.Premises.{AnswersPending}
+use Rattle.nob_model_history.proofs.Sessions.{number_kept}
 use Rattle.nob_model_history.proofs.Dirtying.{same_flip}
 use Rattle.nob_model_history.proofs.Turning.{HaveShape, shapes, wanted_none, named_ref, same_ref, granted_answered}
 use Rattle.nob_model.specs.Lists.{AreRightDeeds}
@@ -25,7 +26,7 @@ use Rattle.nob_model.proofs.Premises.{in_turn, item_acted, took_turns}
 use Rattle.nob_model_invariant.specs.Asking.{answer_in, asks_among, answers_among, items_among, word_of, turns_by, AskedInTurn}
 use Rattle.nob_model_invariant.proofs.Bools.{turns_dirty, turns_clean, turns_answer, none_asked, dirty_in_turn, answer_in_turn, clean_in_turn}
 use Rattle.nob_model_history.proofs.Unasked.{is_message}
-use Rattle.nob_model_invariant.proofs.Opened.{opens_above, other_number}
+use Rattle.nob_model_invariant.proofs.Opened.{opens_above}
 use Rattle.nob_model_invariant.proofs.Anew.{none_sent_new}
 use Rattle.nob_model_invariant.proofs.Asked.{may_ask, asks_of, gifts_ask, asks_more, asks_nothing, clean_asked, message_asked}
 
@@ -229,8 +230,8 @@ opened_turned s n limits rep q k D right turned = by (q == rep.owner) refl
     turns_then own is = ap (λ (b : Bool). cond b no_turns (turns s n rep D)) is
 
     by : (own : Bool) → (q == rep.owner) ≡ own → IsTurned s n rep (did.Open q k ∷ D)
-    by true own = turned_none s n rep (did.Open q k ∷ D) (turns_then true own) (ap (asks_among rep.index) (none_sent_new s n rep.owner limits (did.Open q k) D right (opens_above s n rep.owner q k limits D right.0 own))) (answered true own)
-    by false other = other_turned s n rep (did.Open q k) D (other_number rep.owner q k D other) refl (answered false other) (turns_then false other) turned
+    by true own = turned_none s n rep (did.Open q k ∷ D) (turns_then true own) (ap (asks_among rep.index) (none_sent_new s n rep.owner limits (did.Open q k) D right (opens_above s n rep.owner limits (did.Open q k) D right.0 own))) (answered true own)
+    by false other = other_turned s n rep (did.Open q k) D (number_kept rep.owner (did.Open q k) D other) refl (answered false other) (turns_then false other) turned
 
 -- in every list of right deeds client and owner took turns
 pub are_turned : (s n : ℕ) (limits : Limits) (rep : WireRep) (D : List Deed) → AreRightDeeds s n limits D → IsTurned s n rep D

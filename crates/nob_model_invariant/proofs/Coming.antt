@@ -18,10 +18,10 @@ use Rattle.nob_model_work.specs.Work.{without_first, is_none_of, wait, make_read
 use Rattle.nob_model_history.proofs.Sessions.{number_kept}
 use Rattle.nob_model.specs.Lists.{AreRightDeeds}
 use Rattle.nob_model.proofs.Carrying.{AllOutstanding, all_filter}
+use Rattle.nob_model.proofs.Reopening.{open_closed}
 use Rattle.nob_model.proofs.Waiting.{IsOpenIn, are_waiting, all_weaker}
 use Rattle.nob_model_holdings.proofs.Hands.{New, outstanding_more, hand_weaker}
 use Rattle.nob_model_holdings.proofs.Lists.{all_append}
-use Rattle.nob_model_invariant.proofs.Opened.{open_told}
 use Rattle.nob_model_invariant.proofs.EachSession.{deed_rises}
 
 -- messages came in the present sessions with their senders
@@ -94,7 +94,7 @@ pub none_from : (s n : ℕ) (limits : Limits) (p q k : ℕ) (D : List Deed) → 
 none_from s n limits p q k D right own = all_weaker (IsOpenIn s n D) (λ (m : Message). (m.from == p) ≡ false) away (work s n D).waiting (are_waiting s n limits D right.1).0
   where
     shut : closed p D ≡ true
-    shut = subst (λ (r : ℕ). closed r D ≡ true) (eqb-true q p own) (open_told s n q k limits D right.0).shut
+    shut = subst (λ (r : ℕ). closed r D ≡ true) (eqb-true q p own) (open_closed s n limits q k D right.0)
 
     away : (m : Message) → IsOpenIn s n D m → (m.from == p) ≡ false
     away m is = ne_eqb m.from p (λ same. both_ways (closed m.from D) is.0 (subst (λ (r : ℕ). closed r D ≡ true) (sym same) shut))

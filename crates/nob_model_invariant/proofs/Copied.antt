@@ -19,6 +19,7 @@ use Rattle.nob_model_types.specs.Messages.{message_after, is_of}
 use Rattle.nob_model_work.specs.Work.{work}
 use Rattle.nob_model_history.specs.Histories.{history_of}
 use Rattle.nob_model_history.specs.Premises.{TookTurns}
+use Rattle.nob_model_history.proofs.Sessions.{number_kept}
 use Rattle.nob_model_history.proofs.Inbox.{acted_takes}
 use Rattle.nob_model_history.proofs.Turning.{same_ref, shapes, pending_waits, waiting_stands, granted_answered, after_clean}
 use Rattle.nob_model_acting.specs.Candidates.{is_all_resolved}
@@ -29,7 +30,7 @@ use Rattle.nob_model.proofs.Premises.{took_turns}
 use Rattle.nob_model.proofs.Waiting.{IsOpenIn, are_waiting, settled_message, act_number, all_weaker}
 use Rattle.nob_model_journal.specs.Losses.{is_carried, sources}
 use Rattle.nob_model_journal.specs.declared.losses.Source.{Source}
-use Rattle.nob_model_invariant.proofs.Opened.{opens_above, other_number, open_stays}
+use Rattle.nob_model_invariant.proofs.Opened.{opens_above, open_stays}
 use Rattle.nob_model_invariant.proofs.EachSession.{deed_rises}
 use Rattle.nob_model_invariant.proofs.Clients.{asks_peer}
 use Rattle.nob_model_holdings.proofs.Lists.{all_both, place_in_whole, some_same}
@@ -51,7 +52,7 @@ stands_on s n limits p k item (did.Act q j) D right same at = elim (q == p) as (
 stands_on s n limits p k item (did.Open q j) D right same at = by (q == p) refl
   where
     by : (own : Bool) → (q == p) ≡ own → slice_get (cond own [] (acted p D)) (k - 1) ≡ Some (k, Some item)
-    by true own = absurd (let above = opens_above s n p q j limits D right own in omega (arith, above, same))
+    by true own = absurd (let above = opens_above s n p limits (did.Open q j) D right own in omega (arith, above, same))
     by false other = at
 stands_on s n limits p k item deed D right same at = at
 
@@ -146,7 +147,7 @@ copies_acted s n limits rep (did.Open q k ∷ D) right = by (copies_acted s n li
   where
     by : AllByRecursion (IsCopyOf rep D) (sources s n rep D) → (own : Bool) → (q == rep.owner) ≡ own → AllByRecursion (IsCopyOf rep (did.Open q k ∷ D)) (cond own [] (sources s n rep D))
     by before true own = tt
-    by before false other = copies_on s n limits (did.Open q k) D right.0 rep (other_number rep.owner q k D other) before
+    by before false other = copies_on s n limits (did.Open q k) D right.0 rep (number_kept rep.owner (did.Open q k) D other) before
 copies_acted s n limits rep (deed ∷ D) right = copies_on s n limits deed D right.0 rep refl (copies_acted s n limits rep D right.1)
 
 -- ---- a message that is settled carries nothing that is pending
@@ -316,7 +317,7 @@ opened_copied s n limits rep q k D right before = by (q == rep.owner) refl
       none = λ peer up idle. came true own;
       wait = λ up pending. absurd (let clash : false ≡ true = ap is_pending (sym (turned true own)) ∙ pending in cc);
     }
-    by false other = other_copied s n limits rep (did.Open q k) D (other_number rep.owner q k D other) right (turned false other) (came false other) before
+    by false other = other_copied s n limits rep (did.Open q k) D (number_kept rep.owner (did.Open q k) D other) right (turned false other) (came false other) before
 
 -- in every list of right deeds
 pub are_copied : (s n : ℕ) (limits : Limits) (rep : WireRep) (D : List Deed) → AreRightDeeds s n limits D → AreCopied s n rep D

@@ -37,7 +37,8 @@ use Rattle.nob_model_holdings.proofs.Holdings.{pins_stand}
 use Rattle.nob_model_holdings.proofs.Lists.{all_append}
 use Rattle.nob_model_invariant.proofs.Owners.{gave_of, asked_of, are_answered}
 use Rattle.nob_model_invariant.proofs.BySession.{given_elsewhere, sent_stays, acted_stays}
-use Rattle.nob_model_invariant.proofs.EachSession.{opening_above, acted_is}
+use Rattle.nob_model_invariant.proofs.Opened.{opens_above}
+use Rattle.nob_model_invariant.proofs.EachSession.{acted_is}
 use Rattle.nob_model_invariant.proofs.Anew.{none_sent_new}
 use Rattle.nob_model_invariant.proofs.Bundles.{settled_in}
 
@@ -155,7 +156,7 @@ act_deed s n limits c x q k D right before refuses false own =
 -- where its session is opened anew it was denied nothing
 open_deed : (s n : ℕ) (limits : Limits) (c x q k : ℕ) (D : List Deed) → AreRightDeeds s n limits (did.Open q k ∷ D) → (has_no (gave_of s n c x D) ≡ true → AllByRecursion (IsSettledTo s c x D) (sent (history_of s n D))) → has_no (gave_of s n c x (did.Open q k ∷ D)) ≡ true → (own : Bool) → (q == c) ≡ own → AllByRecursion (IsSettledTo s c x (did.Open q k ∷ D)) (sent (history_of s n (did.Open q k ∷ D)))
 open_deed s n limits c x q k D right before refuses true own =
-    absurd (both_ways (has_no (gave_of s n c x (did.Open q k ∷ D))) (ap (λ more. has_no (answers_among x more)) (none_sent_new s n c limits (did.Open q k) D right (opening_above s n c limits (did.Open q k) D right.0 own))) refuses)
+    absurd (both_ways (has_no (gave_of s n c x (did.Open q k ∷ D))) (ap (λ more. has_no (answers_among x more)) (none_sent_new s n c limits (did.Open q k) D right (opens_above s n c limits (did.Open q k) D right.0 own))) refuses)
 open_deed s n limits c x q k D right before refuses false other =
     other_deed s n limits c x (did.Open q k) D other right (ap (λ (b : Bool). asks_among x (items_among (cond b [] (acted c D)))) other) before refuses
 

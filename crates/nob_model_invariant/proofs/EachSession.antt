@@ -14,14 +14,12 @@ use Rattle.nob_model_history.specs.Transit.{sent}
 use Rattle.nob_model_history.proofs.Numbered.{items_sent_in}
 use Rattle.nob_model_history.proofs.Sessions.{opens, number_kept}
 use Rattle.nob_model.specs.Lists.{IsRightDeed, AreRightDeeds}
+use Rattle.nob_model.proofs.Reopening.{open_number}
 use Rattle.nob_model_journal.specs.Journals.{deeds_at, number_at, sent_in, acted_during, acted_in, acted_from}
 use Rattle.nob_model_journal.specs.Runs.{WorldRun}
 use Rattle.nob_model_invariant.proofs.Entries.{grows, right_deeds_at}
-use Rattle.nob_model_invariant.proofs.Opened.{open_told}
+use Rattle.nob_model_invariant.proofs.Opened.{never, opens_above}
 use Rattle.nob_model_invariant.proofs.BySession.{sent_stays, acted_stays}
-
-never : false ≡ true → ⊥
-never e = cc
 
 -- ---- the number of a session, by one deed more
 
@@ -35,18 +33,11 @@ closed_kept p (did.Open q k) D other shut = ap (λ (b : Bool). cond b false (clo
 closed_kept p (did.Closing q reason cause) D other shut = or_right (q == p) (closed p D) shut
 closed_kept p deed D other shut = shut
 
--- an Open opens a session above
-pub opening_above : (s n p : ℕ) (limits : Limits) (deed : Deed) (D : List Deed) → IsRightDeed s n limits deed D → opens p deed ≡ true → number p D < number p (deed ∷ D)
-opening_above s n p limits (did.Open q k) D right own =
-    let told = open_told s n q k limits D right in
-    subst (λ (m : ℕ). number p D < m) (sym (ap (λ (b : Bool). cond b k (number p D)) own)) (subst (λ (r : ℕ). number r D < k) (eqb-true q p own) told.above)
-opening_above s n p limits deed D right own = absurd (never own)
-
 deed_goes_on : (s n p : ℕ) (limits : Limits) (deed : Deed) (D : List Deed) → IsRightDeed s n limits deed D → GoesOn p D (deed ∷ D)
 deed_goes_on s n p limits deed D right = by (opens p deed) refl
   where
     by : (b : Bool) → opens p deed ≡ b → GoesOn p D (deed ∷ D)
-    by true own = inr (opening_above s n p limits deed D right own)
+    by true own = inr (opens_above s n p limits deed D right own)
     by false other = inl (number_kept p deed D other, closed_kept p deed D other)
 
 -- so goes on each space of a run
@@ -119,7 +110,7 @@ acted_is s n p limits (did.Open q k ∷ D) right = by (q == p) refl (acted_is s 
   where
     by : (own : Bool) → (q == p) ≡ own → acted p D ≡ acted_during p (number p D) D → cond own [] (acted p D) ≡ acted_during p (cond own k (number p D)) D
     by true own before =
-        let above : number p D < k = subst (λ (r : ℕ). number r D < k) (eqb-true q p own) (open_told s n q k limits D right.0).above in
+        let above : number p D < k = subst (λ (r : ℕ). number r D < k) (eqb-true q p own) (open_number s n limits q k D right.0) in
         sym (none_acted_above s n p k limits D right.1 above)
     by false other before = before
 acted_is s n p limits (_ ∷ D) right = acted_is s n p limits D right.1

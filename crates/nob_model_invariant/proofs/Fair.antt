@@ -40,7 +40,7 @@ use Rattle.nob_model_invariant.proofs.Counts.{one_if, count_first, count_append,
 use Rattle.nob_model_holdings.proofs.Lists.{some_same}
 use Rattle.nob_model_invariant.proofs.Notes.{may_speak, gives_notes}
 use Rattle.nob_model_invariant.proofs.BySession.{sent_now_more}
-use Rattle.nob_model_invariant.proofs.EachSession.{opening_above}
+use Rattle.nob_model_invariant.proofs.Opened.{opens_above}
 use Rattle.nob_model_invariant.proofs.Anew.{none_sent_new}
 use Rattle.nob_model_invariant.proofs.Coming.{IsReached, waiting_present, all_reached}
 
@@ -318,7 +318,7 @@ open_fair : (p k s n : ℕ) (limits : Limits) (q j : ℕ) (D : List Deed) → Ar
 unfolding work_after
 open_fair p k s n limits q j D right before true own =
     let E : List Deed = did.Open q j ∷ D in
-    let above : number p D < number p E = opening_above s n p limits (did.Open q j) D right.0 own in
+    let above : number p D < number p E = opens_above s n p limits (did.Open q j) D right.0 own in
     let loans = loans_fair p (number p E) k s n E (work s n D) in
     let few = none_outstanding p (number p E) k D above (work s n D) (all_reached s n limits D right.1) in
     let none = ap (count_of (replies_to k)) (none_sent_new s n p limits (did.Open q j) D right above) in

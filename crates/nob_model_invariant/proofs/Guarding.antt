@@ -354,7 +354,7 @@ module _ (n c o x : ℕ) (limits : ℕ → Limits) (J : List Entry) (run : World
   deed_left (did.Open q k) right stays before = by (q == c) refl
     where
       by : (own : Bool) → (q == c) ≡ own → AreGuarded o x (cond own false (is_entered o x c (deeds_at o J))) (drop (length (cond own [] (acted_from c o J))) whole)
-      by true own = absurd (let above = opens_above o n c q k (limits o) (deeds_at o J) right own in omega (arith, above, stays))
+      by true own = absurd (let above = opens_above o n c (limits o) (did.Open q k) (deeds_at o J) right own in omega (arith, above, stays))
       by false other = before
   deed_left deed right stays before = before
 

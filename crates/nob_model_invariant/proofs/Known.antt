@@ -1,7 +1,8 @@
 -- Each reference of a message that waits is the space's own, lost, or has a surrogate.
 use Rattle.std.proofs.Common.{◌≡◌, ℕ, ◌≤◌, ◌&&◌, ◌||◌, not, Bool, true, false, cond, List, [], ◌∷◌, map, Option, Some, None, refl, sym, ap, subst, ◌∙◌}
+use Rattle.std.specs.Prelude.{◌==◌}
 use Rattle.std.specs.List.{AllByRecursion, list_any}
-use Rattle.std.proofs.lemmas.Bool.{and_parts, or_left, or_right, both_ways}
+use Rattle.std.proofs.lemmas.Bool.{and_parts, or_left, or_right, both_ways, not-true}
 use Rattle.nob_ids.specs.Names.{is_same}
 use Rattle.nob_ids.specs.declared.limits.Limits.{Limits}
 use Rattle.nob_ids.specs.declared.wire_rep.WireRep.{WireRep}
@@ -37,7 +38,7 @@ use Rattle.nob_model.proofs.Made.{all_fixed, work_fixed}
 use Rattle.nob_model.proofs.Premises.{took_turns}
 use Rattle.nob_model.proofs.Reopening.{open_uncarried}
 use Rattle.nob_model.proofs.Waiting.{all_weaker}
-use Rattle.nob_model_holdings.proofs.Granted.{gives_up, held_kept, all_stand, hand_apart, copies_apart}
+use Rattle.nob_model_holdings.proofs.Granted.{gives_up, kept_unopened, all_stand, hand_apart, copies_apart}
 use Rattle.nob_model_holdings.proofs.Holdings.{lent_held}
 use Rattle.nob_model_holdings.proofs.Lists.{all_split}
 use Rattle.nob_model_invariant.proofs.Settling.{waits_more}
@@ -67,11 +68,11 @@ item_standing s n p rep (Some (items.DirtyOk index)) D answers is = turned_stand
 item_standing s n p rep (Some (items.DirtyNo index)) D answers is = turned_standing (names rep p index) (turns s n rep D) (with_answer said.Refused (turns s n rep D)) (λ named. refused_stands (with_answer said.Refused (turns s n rep D)) (after_answer said.Refused (turns s n rep D) (answered_pending s n p index rep D answers named)).2) is
 item_standing s n p rep (Some (items.Clean index)) D answers is = is
 
-standing_on : (s n : ℕ) (rep : WireRep) (deed : Deed) (D : List Deed) → opens rep.owner deed ≡ false → TookTurns s n (deed ∷ D) → gives_up rep deed ≡ false → is_standing (turns s n rep D) ≡ true → is_standing (turns s n rep (deed ∷ D)) ≡ true
-standing_on s n rep (did.Act p k) D same took kept is = item_standing s n p rep (item_at p k D) D took.0 is
-standing_on s n rep (did.Clean other) D same took kept is = not_turned (is_same rep other) (turns s n rep D) (with_clean (turns s n rep D)) (λ given. both_ways (is_same rep other) kept given) is
-standing_on s n rep (did.Open q k) D same took kept is = ap (λ (b : Bool). is_standing (cond b no_turns (turns s n rep D))) same ∙ is
-standing_on s n rep deed D same took kept is = is
+standing_on : (s n : ℕ) (rep : WireRep) (deed : Deed) (D : List Deed) → TookTurns s n (deed ∷ D) → gives_up rep deed ≡ false → is_standing (turns s n rep D) ≡ true → is_standing (turns s n rep (deed ∷ D)) ≡ true
+standing_on s n rep (did.Act p k) D took kept is = item_standing s n p rep (item_at p k D) D took.0 is
+standing_on s n rep (did.Clean other) D took kept is = not_turned (is_same rep other) (turns s n rep D) (with_clean (turns s n rep D)) (λ given. both_ways (is_same rep other) kept given) is
+standing_on s n rep (did.Open q k) D took kept is = ap (λ (b : Bool). is_standing (cond b no_turns (turns s n rep D))) kept ∙ is
+standing_on s n rep deed D took kept is = is
 
 known_by : (own lost stands lost_now stands_now : Bool) → (lost ≡ true → lost_now ≡ true) → (stands ≡ true → stands_now ≡ true) → (own || (lost || stands)) ≡ true → (own || (lost_now || stands_now)) ≡ true
 known_by true lost stands lost_now stands_now f g is = refl
@@ -79,19 +80,21 @@ known_by false true stands lost_now stands_now f g is = or_left lost_now stands_
 known_by false false stands lost_now stands_now f g is = or_right lost_now stands_now (g is)
 
 -- so what is known stays known until it is given up
-known_on : (s n : ℕ) (rep : WireRep) (deed : Deed) (D : List Deed) → opens rep.owner deed ≡ false → TookTurns s n (deed ∷ D) → gives_up rep deed ≡ false → is_known s n rep D ≡ true → is_known s n rep (deed ∷ D) ≡ true
-known_on s n rep deed D same took kept is = known_by (is_own s rep) (is_lost s n rep D) (is_standing (turns s n rep D)) (is_lost s n rep (deed ∷ D)) (is_standing (turns s n rep (deed ∷ D))) (lost_stays s n rep deed D took same) (standing_on s n rep deed D same took kept) is
+known_on : (s n : ℕ) (rep : WireRep) (deed : Deed) (D : List Deed) → TookTurns s n (deed ∷ D) → gives_up rep deed ≡ false → is_known s n rep D ≡ true → is_known s n rep (deed ∷ D) ≡ true
+known_on s n rep deed D took kept is = known_by (is_own s rep) (is_lost s n rep D) (is_standing (turns s n rep D)) (is_lost s n rep (deed ∷ D)) (is_standing (turns s n rep (deed ∷ D))) (lost_stays s n rep deed D took (kept_unopened rep deed kept)) (standing_on s n rep deed D took kept) is
 
 -- ---- what a message that waits carries isn't given up
 
--- what is given up could be used
-given_usable : (s n : ℕ) (limits : Limits) (rep : WireRep) (deed : Deed) (D : List Deed) → IsRightDeed s n limits deed D → gives_up rep deed ≡ true → is_usable s n rep D ≡ true
+-- what a Clean gives up could be used and isn't held
+given_idle : (s n : ℕ) (limits : Limits) (rep : WireRep) (deed : Deed) (D : List Deed) → IsRightDeed s n limits deed D → opens rep.owner deed ≡ false → gives_up rep deed ≡ true → (is_usable s n rep D ≡ true) × (is_held s rep (history_of s n D) ≡ false)
 unfolding right_after
-given_usable s n limits rep (did.Clean other) D right gives =
+given_idle s n limits rep (did.Clean other) D right same gives =
     let h : History = history_of s n D in
     let idle = found_passes (is_idle s n h) (by_last_dirty h) other (clean_tells s n other h (was_answered s n limits (did.Clean other) D right)).0 in
-    subst (λ (r : WireRep). is_usable s n r D ≡ true) (sym (same_ref rep other gives)) (and_parts _ _ (and_parts (is_usable s n other D && not (is_held s other h)) _ idle).0).0
-given_usable s n limits rep deed D right gives = cc
+    let parts = and_parts (is_usable s n other D) (not (is_held s other h)) (and_parts (is_usable s n other D && not (is_held s other h)) _ idle).0 in
+    subst (λ (r : WireRep). (is_usable s n r D ≡ true) × (is_held s r h ≡ false)) (sym (same_ref rep other gives)) (parts.0, not-true _ parts.1)
+given_idle s n limits rep (did.Open q k) D right same gives = absurd (both_ways (q == rep.owner) same gives)
+given_idle s n limits rep deed D right same gives = cc
 
 -- what is known of a copy in a message that waits
 pub record IsHeldCopy (s n : ℕ) (D : List Deed) (copy : RefCopy) : Type 0 where
@@ -111,16 +114,20 @@ copy_known_on s n limits deed D right copy same its = by copy.loan refl
 
     due : copy.loan ≡ loans.Due → gives_up copy.rep deed ≡ true → ⊥
     due is gives =
-        let usable : (is_own s copy.rep || is_usable s n copy.rep D) ≡ true = or_right (is_own s copy.rep) (is_usable s n copy.rep D) (given_usable s n limits copy.rep deed D right.0 gives) in
+        let usable : (is_own s copy.rep || is_usable s n copy.rep D) ≡ true = or_right (is_own s copy.rep) (is_usable s n copy.rep D) (given_idle s n limits copy.rep deed D right.0 same gives).0 in
         due_lent (ap (λ (b : Bool). loan_after b loans.Due) (sym usable) ∙ ap (loan_after (is_own s copy.rep || is_usable s n copy.rep D)) (sym is) ∙ its.fixed ∙ is)
 
     unless : copy.loan ≡ loans.Due → (b : Bool) → gives_up copy.rep deed ≡ b → is_known s n copy.rep (deed ∷ D) ≡ true
     unless is true gives = absurd (due is gives)
-    unless is false kept = known_on s n copy.rep deed D same took kept its.known
+    unless is false kept = known_on s n copy.rep deed D took kept its.known
+
+    unless_held : is_held s copy.rep (history_of s n D) ≡ true → (b : Bool) → gives_up copy.rep deed ≡ b → is_known s n copy.rep (deed ∷ D) ≡ true
+    unless_held held true gives = absurd (both_ways (is_held s copy.rep (history_of s n D)) (given_idle s n limits copy.rep deed D right.0 same gives).1 held)
+    unless_held held false kept = known_on s n copy.rep deed D took kept its.known
 
     by : (loan : Loan) → copy.loan ≡ loan → is_known s n copy.rep (deed ∷ D) ≡ true
     by loans.Due is = unless is (gives_up copy.rep deed) refl
-    by loans.Lent is = known_on s n copy.rep deed D same took (held_kept s n limits copy.rep deed D right.0 (lent_held s n limits copy.rep D right.1 (its.lent is))) its.known
+    by loans.Lent is = unless_held (lent_held s n limits copy.rep D right.1 (its.lent is)) (gives_up copy.rep deed) refl
     by loans.Never is = or_right (is_own s copy.rep) _ (or_left (is_lost s n copy.rep (deed ∷ D)) _ (lost_stays s n copy.rep deed D took same (its.never is)))
 
 -- ---- the messages that wait

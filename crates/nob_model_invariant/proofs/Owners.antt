@@ -29,6 +29,7 @@ use Rattle.nob_model_history.specs.Histories.{history_of}
 use Rattle.nob_model_history.specs.Ends.{items_to}
 use Rattle.nob_model_history.specs.Transit.{sent}
 use Rattle.nob_model_history.specs.Listing.{is_entered, is_entered_after}
+use Rattle.nob_model_history.proofs.Sessions.{number_kept}
 use Rattle.nob_model_history.proofs.Numbered.{items_sent_in, gifts_sent_now}
 use Rattle.nob_model_acting.specs.Acting.{fault_of, is_unknown}
 use Rattle.nob_model.specs.Right.{right_after}
@@ -39,7 +40,7 @@ use Rattle.nob_model.proofs.Premises.{in_turn, item_acted, no_fault}
 use Rattle.nob_model.proofs.Carrying.{all_filter}
 use Rattle.nob_model_invariant.specs.Asking.{ask_in, answer_in, asks_among, answers_among, items_among, dirties_in, last_or, word_of, last_word, has_no, OkFirst, AnsweredInTurn}
 use Rattle.nob_model_invariant.proofs.BySession.{sent_stays}
-use Rattle.nob_model_invariant.proofs.Opened.{opens_above, other_number}
+use Rattle.nob_model_invariant.proofs.Opened.{opens_above}
 use Rattle.nob_model_invariant.proofs.Anew.{none_sent_new}
 use Rattle.nob_model_invariant.proofs.Bools.{dirties_push, last_push, word_push}
 
@@ -398,8 +399,8 @@ opened_answered s n limits c x q k D right are = by (q == c) refl
     entry own is = ap (λ (b : Bool). cond b false (is_entered s x c D)) is
 
     by : (own : Bool) → (q == c) ≡ own → IsAnswered s n c x (did.Open q k ∷ D)
-    by true own = answered_none s n c x (did.Open q k ∷ D) (asked true own) (ap (answers_among x) (none_sent_new s n c limits (did.Open q k) D right (opens_above s n c q k limits D right.0 own))) (entry true own)
-    by false other = other_deed s n c x (did.Open q k) D (other_number c q k D other) refl (asked false other) (entry false other) (λ known. known) (λ gone. gone) are
+    by true own = answered_none s n c x (did.Open q k ∷ D) (asked true own) (ap (answers_among x) (none_sent_new s n c limits (did.Open q k) D right (opens_above s n c limits (did.Open q k) D right.0 own))) (entry true own)
+    by false other = other_deed s n c x (did.Open q k) D (number_kept c (did.Open q k) D other) refl (asked false other) (entry false other) (λ known. known) (λ gone. gone) are
 
 -- in every list of right deeds the owner answered what it was asked
 pub are_answered : (s n : ℕ) (limits : Limits) (c x : ℕ) (D : List Deed) → AreRightDeeds s n limits D → IsAnswered s n c x D

@@ -191,7 +191,7 @@ open_before s n p limits (did.Closing q reason cause) D right same up = (or_part
 open_before s n p limits (did.Open q k) D right same up = by (q == p) refl up
   where
     by : (own : Bool) → (q == p) ≡ own → cond own false (closed p D) ≡ false → closed p D ≡ false
-    by true own is = absurd (let above = opens_above s n p q k limits D right own in omega (arith, above, same))
+    by true own is = absurd (let above = opens_above s n p limits (did.Open q k) D right own in omega (arith, above, same))
     by false other is = is
 open_before s n p limits deed D right same up = up
 

@@ -26,7 +26,7 @@ use Rattle.nob_model.proofs.Carrying.{all_push, all_without, all_found}
 use Rattle.nob_model.proofs.Waiting.{settled_message, act_number, all_weaker}
 use Rattle.nob_model_invariant.specs.Settles.{settle_in, IsCarrying}
 use Rattle.nob_model_holdings.proofs.Lists.{place_in_whole}
-use Rattle.nob_model_invariant.proofs.EachSession.{opening_above}
+use Rattle.nob_model_invariant.proofs.Opened.{opens_above}
 use Rattle.nob_model_invariant.proofs.Anew.{none_sent_new}
 use Rattle.nob_model_invariant.proofs.Coming.{none_from}
 use Rattle.nob_model_invariant.proofs.Settling.{waits_more, others_wait, settles_of, is_settle, settles_same, settles_now}
@@ -115,7 +115,7 @@ settle_carries s n limits p q k D right before =
 open_carries : (s n : ℕ) (limits : Limits) (p q k : ℕ) (D : List Deed) → AreRightDeeds s n limits (did.Open q k ∷ D) → SettledCarry s n p D → (b : Bool) → (q == p) ≡ b → SettledCarry s n p (did.Open q k ∷ D)
 open_carries s n limits p q k D right before true own =
     let E : List Deed = did.Open q k ∷ D in
-    let none : settles_of s n p E ≡ [] = ap (filter_map settle_in) (none_sent_new s n p limits (did.Open q k) D right (opening_above s n p limits (did.Open q k) D right.0 own)) in
+    let none : settles_of s n p E ≡ [] = ap (filter_map settle_in) (none_sent_new s n p limits (did.Open q k) D right (opens_above s n p limits (did.Open q k) D right.0 own)) in
     record {
       waits = waits_more (IsOfCarrying p E) s n (did.Open q k) D (kept s n p E E) (new_waits s n limits p (did.Open q k) D right)
           (all_weaker (λ (m : Message). (m.from == p) ≡ false) (IsOfCarrying p E) (λ m away from. absurd (both_ways (m.from == p) away from)) (work s n D).waiting (none_from s n limits p q k D right own));

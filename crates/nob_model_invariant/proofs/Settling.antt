@@ -39,7 +39,7 @@ use Rattle.nob_model_history.proofs.Sessions.{opens, number_kept}
 use Rattle.nob_model_holdings.proofs.Lists.{all_both}
 use Rattle.nob_model_invariant.specs.Settles.{settle_in, is_in, AreOnce}
 use Rattle.nob_model_invariant.proofs.Owners.{any_push}
-use Rattle.nob_model_invariant.proofs.EachSession.{opening_above}
+use Rattle.nob_model_invariant.proofs.Opened.{opens_above}
 use Rattle.nob_model_invariant.proofs.Anew.{none_sent_new}
 
 -- ---- messages that wait, by one deed more
@@ -350,7 +350,7 @@ none_over p (m ∷ ms) = ((λ own. refl), none_over p ms)
 -- a session that is opened anew
 open_once : (s n : ℕ) (limits : Limits) (p q k : ℕ) (D : List Deed) → AreRightDeeds s n limits (did.Open q k ∷ D) → SettledOnce s n p D → (b : Bool) → (q == p) ≡ b → SettledOnce s n p (did.Open q k ∷ D)
 open_once s n limits p q k D right before true own =
-    let none : settles_of s n p (did.Open q k ∷ D) ≡ [] = ap (filter_map settle_in) (none_sent_new s n p limits (did.Open q k) D right (opening_above s n p limits (did.Open q k) D right.0 own)) in
+    let none : settles_of s n p (did.Open q k ∷ D) ≡ [] = ap (filter_map settle_in) (none_sent_new s n p limits (did.Open q k) D right (opens_above s n p limits (did.Open q k) D right.0 own)) in
     record {
       over = subst (λ ks. AllByRecursion (IsOver p ks) (work s n (did.Open q k ∷ D)).waiting) (sym none) (none_over p (work s n (did.Open q k ∷ D)).waiting);
       low = subst (AllByRecursion (λ j. j ≤ takes (calls_at p (history_of s n (did.Open q k ∷ D))))) (sym none) tt;
