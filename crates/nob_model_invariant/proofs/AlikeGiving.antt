@@ -167,4 +167,5 @@ module _ (s n m : ℕ) (wider : n ≤ m) where
   sources_alike rep (did.Clean other ∷ D) first =
       let since : Turns → List Source → List Source = λ t rest. if is_same rep other && t.asks then [] else rest in
       ap (λ t. since t (sources s n rep D)) (turns_alike s n m wider rep D first.1) ∙ ap (since (turns s m rep D)) (sources_alike rep D first.1)
+  sources_alike rep (did.Open q k ∷ D) first = ap (λ (rest : List Source). if q == rep.owner then [] else rest) (sources_alike rep D first.1)
   sources_alike rep (deed ∷ D) first = sources_alike rep D first.1

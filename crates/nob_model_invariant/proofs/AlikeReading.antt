@@ -17,7 +17,7 @@ use Rattle.nob_model_types.specs.declared.message.Message.{Message}
 use Rattle.nob_model_types.specs.declared.message.RefCopy.{RefCopy}
 use Rattle.nob_model_types.specs.declared.turns.Turns.{Turns}
 use Rattle.nob_model_types.specs.Sessions.{is_peer, closed, number, item_at}
-use Rattle.nob_model_types.specs.Turns.{is_granted, is_refused, is_standing, wants_dirty, with_dirty, with_clean, turns_after, turns, is_own, is_lost}
+use Rattle.nob_model_types.specs.Turns.{no_turns, is_granted, is_refused, is_standing, wants_dirty, with_dirty, with_clean, turns_after, turns, is_own, is_lost}
 use Rattle.nob_model_types.specs.Messages.{new_copy, new_message, loan_after, copy_after, message_after, is_of, is_lost_message}
 use Rattle.nob_model_work.specs.declared.work.Outstanding.{Outstanding}
 use Rattle.nob_model_work.specs.declared.work.Run.{Run}
@@ -82,6 +82,7 @@ module _ (s n m : ℕ) (wider : n ≤ m) where
   turns_alike rep (did.Act p k ∷ D) first =
       item_alike p rep (item_at p k D) D (turns s n rep D) first.0.1 ∙ ap (turns_after s m p rep (item_at p k D) D) (turns_alike rep D first.1)
   turns_alike rep (did.Clean other ∷ D) first = ap (λ t. if is_same rep other then with_clean t else t) (turns_alike rep D first.1)
+  turns_alike rep (did.Open q k ∷ D) first = ap (λ t. if q == rep.owner then no_turns else t) (turns_alike rep D first.1)
   turns_alike rep (deed ∷ D) first = turns_alike rep D first.1
 
   lost_alike : (rep : WireRep) (D : List Deed) → AmongFirst n D → IsOfFirst n rep → is_lost s n rep D ≡ is_lost s m rep D

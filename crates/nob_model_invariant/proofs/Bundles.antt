@@ -98,4 +98,9 @@ settled_in p k (did.Act q j ∷ D) is = by (settled_in p k D) (q == p) refl (is_
     by rest true same true settles either = ap (is_in k) (settles_split (acted p D) j (item_at p j D)) ∙ any_after k (settles_among (items_among (acted p D))) _ (settle_is k (item_at p j D) (ap (λ (r : ℕ). is_settle_of k (item_at r j D)) (sym (eqb-true q p same)) ∙ settles))
     by rest true same false settles either = ap (is_in k) (settles_split (acted p D) j (item_at p j D)) ∙ any_left k (settles_among (items_among (acted p D))) _ (rest either)
     by rest false same now settles either = rest either
+settled_in p k (did.Open q j ∷ D) is = by (settled_in p k D) (q == p) is
+  where
+    by : (is_settled p k D ≡ true → is_in k (settles_among (items_among (acted p D))) ≡ true) → (own : Bool) → cond own false (is_settled p k D) ≡ true → is_in k (settles_among (items_among (cond own [] (acted p D)))) ≡ true
+    by rest true is = cc
+    by rest false is = rest is
 settled_in p k (deed ∷ D) is = settled_in p k D is

@@ -1,7 +1,7 @@
 -- What was sent and acted on, session by session, by one entry more: only what is sent or acted on in the present session grows.
 use Rattle.std.proofs.Common.{◌≡◌, ℕ, ◌+◌, ◌≤◌, ◌&&◌, Bool, true, false, cond, List, [], ◌∷◌, ◌++◌, length, map, Ok, refl, sym, ap, subst, ◌∙◌, ◌⊎◌, inl, inr, arith}
 use Rattle.std.specs.Prelude.{◌==◌}
-use Rattle.std.proofs.lemmas.Bool.{eq-eqb, eqb-true}
+use Rattle.std.proofs.lemmas.Bool.{eqb-true}
 use Rattle.std.proofs.lemmas.List.{append-nil}
 use Rattle.nob_ids.specs.declared.limits.Limits.{Limits}
 use Rattle.nob_ids.specs.declared.reason.Reason.{Reason}
@@ -16,15 +16,16 @@ use Rattle.nob_model_types.specs.declared.deed.Deed.{Deed}
 use Rattle.nob_model_types.specs.declared.deed.Deed.TheVariants as did
 use Rattle.nob_model_types.specs.declared.deed.Cause.{Cause}
 use Rattle.nob_model_types.specs.declared.deed.Cause.TheVariants as causes
-use Rattle.nob_model_types.specs.Sessions.{number, acted, item_at}
+use Rattle.nob_model_types.specs.Sessions.{number, item_at}
 use Rattle.nob_model_work.specs.Work.{work}
-use Rattle.nob_model_work.specs.Gifts.{gifts}
+use Rattle.nob_model_work.specs.Gifts.{gifts_of, gifts}
 use Rattle.nob_model_history.specs.Histories.{history_of}
 use Rattle.nob_model_history.specs.Ends.{items_to, payload_of, kind_of, with_sends, own_calls, call_of_closing, calls_at}
 use Rattle.nob_model_history.specs.Transit.{sent}
+use Rattle.nob_model_history.specs.Premises.{NumbersRise}
 use Rattle.nob_model_history.proofs.Sessions.{sends_number, number_is}
-use Rattle.nob_model_history.proofs.Numbered.{items_sent_in, gifts_sent_in, gifts_sent_now, payloads_handed}
-use Rattle.nob_model_journal.specs.Journals.{deeds_at, number_at, are_in_one, sent_in, sent_now, sent_to, acted_during, acted_in, acted_from}
+use Rattle.nob_model_history.proofs.Numbered.{items_sent_in, gifts_sent_in, gifts_sent_now, rise_before, payloads_handed}
+use Rattle.nob_model_journal.specs.Journals.{deeds_at, number_at, are_in_one, sent_in, sent_now, sent_to, acted_during}
 use Rattle.nob_model_journal.specs.Runs.{WorldRun}
 use Rattle.nob_model_invariant.specs.Typed.{AreOfTypes}
 use Rattle.nob_model_invariant.proofs.Entries.{grows}
@@ -46,8 +47,10 @@ sent_in_same s n p k deed D other =
 pub sent_now_more : (s n p : ℕ) (deed : Deed) (D : List Deed) → items_sent_in p (number p D) (sent (history_of s n (deed ∷ D))) ≡ items_sent_in p (number p D) (sent (history_of s n D)) ++ items_to p (gifts s n deed D (work s n D))
 sent_now_more s n p deed D = gifts_sent_now p D (gifts s n deed D (work s n D)) (sent (history_of s n D))
 
--- a deed leaves the number of each session, or it gives nothing: this is where an event that opens one is a case
+-- a deed leaves the number of each session, or it gives nothing
 number_or_none : (s n p : ℕ) (deed : Deed) (D : List Deed) → (number p (deed ∷ D) ≡ number p D) ⊎ (gifts s n deed D (work s n D) ≡ [])
+unfolding gifts gifts_of
+number_or_none s n p (did.Open q j) D = inr refl
 number_or_none s n p deed D = inl refl
 
 pub given_elsewhere : (s n p k : ℕ) (deed : Deed) (D : List Deed) → (number p (deed ∷ D) == k) ≡ false → ((number p D == k) ≡ false) ⊎ (gifts s n deed D (work s n D) ≡ [])
@@ -111,35 +114,56 @@ closing_left k p own reason (causes.Frame frame) calls other = if_left k own _ c
 closing_left k p own reason causes.Ticks calls other = if_left k own _ calls other
 closing_left k p own reason causes.Asked calls other = if_left k own _ calls other
 
-own_left : (k p : ℕ) (deed : Deed) (calls : List EndEntry) → (end.number calls == k) ≡ false → up_to k (own_calls p deed calls) ≡ up_to k calls
+-- the number of the session with p by a deed more
+number_by : ℕ → Deed → ℕ → ℕ
+number_by p (did.Open q j) before = cond (q == p) j before
+number_by p (_) before = before
+
+number_more : (p : ℕ) (deed : Deed) (D : List Deed) → number p (deed ∷ D) ≡ number_by p deed (number p D)
+unfolding number_by
+number_more p (did.Open q j) D = refl
+number_more p deed D = refl
+
+open_left : (k j : ℕ) (own : Bool) (calls : List EndEntry) → (cond own j (end.number calls) == k) ≡ false → up_to k (cond own (ends.Reopen j (Ok tt) ∷ calls) calls) ≡ up_to k calls
+open_left k j true calls other = ap (λ (b : Bool). cond b (ends.Reopen j (Ok tt) ∷ calls) (up_to k calls)) other
+open_left k j false calls other = refl
+
+own_left : (k p : ℕ) (deed : Deed) (calls : List EndEntry) → (number_by p deed (end.number calls) == k) ≡ false → up_to k (own_calls p deed calls) ≡ up_to k calls
+unfolding number_by
 own_left k p (did.Act q j) calls other = if_left k (q == p) _ calls other
 own_left k p (did.Transmit q frames) calls other = if_left k (q == p) _ calls other
 own_left k p (did.Arrive frame count) calls other = if_left k (frame.from == p) _ calls other
 own_left k p (did.Tick q) calls other = if_left k (q == p) _ calls other
 own_left k p (did.Closing q reason cause) calls other = closing_left k p (q == p) reason cause calls other
+own_left k p (did.Open q j) calls other = open_left k j (q == p) calls other
 own_left k p deed calls other = refl
-
-calls_left : (s n p k : ℕ) (deed : Deed) (D : List Deed) → (number p D == k) ≡ false → up_to k (calls_at p (history_of s n (deed ∷ D))) ≡ up_to k (calls_at p (history_of s n D))
-calls_left s n p k deed D other =
-    let given : List Item = items_to p (gifts s n deed D (work s n D)) in
-    let before : List EndEntry = calls_at p (history_of s n D) in
-    own_left k p deed (with_sends given before) (ap (λ (m : ℕ). m == k) (sends_number given before ∙ number_is s n p D) ∙ other)
-    ∙ sends_left k given before (ap (λ (m : ℕ). m == k) (number_is s n p D) ∙ other)
 
 -- so in another session than the one in which a space is then nothing is handed on
 calls_stay : (s n p k : ℕ) (deed : Deed) (D : List Deed) → (number p (deed ∷ D) == k) ≡ false → up_to k (calls_at p (history_of s n (deed ∷ D))) ≡ up_to k (calls_at p (history_of s n D))
-calls_stay s n p k deed D other = calls_left s n p k deed D other
+calls_stay s n p k deed D other =
+    own_left k p deed (with_sends given before) (ap (λ (m : ℕ). number_by p deed m == k) (sends_number given before ∙ number_is s n p D) ∙ ap (λ (m : ℕ). m == k) (sym (number_more p deed D)) ∙ other)
+    ∙ by (given_elsewhere s n p k deed D other)
+  where
+    given : List Item
+    given = items_to p (gifts s n deed D (work s n D))
 
--- what was handed up to the end of a session are the payloads of what was sent in it
-pub handed_in : (s n p k : ℕ) (D : List Deed) → handed (up_to k (calls_at p (history_of s n D))) ≡ map payload_of (items_sent_in p k (sent (history_of s n D)))
-handed_in s n p k [] = refl
-handed_in s n p k (deed ∷ D) = by (number p (deed ∷ D) == k) refl (handed_in s n p k D)
+    before : List EndEntry
+    before = calls_at p (history_of s n D)
+
+    by : ((number p D == k) ≡ false) ⊎ (gifts s n deed D (work s n D) ≡ []) → up_to k (with_sends given before) ≡ up_to k before
+    by (inl elsewhere) = sends_left k given before (ap (λ (m : ℕ). m == k) (number_is s n p D) ∙ elsewhere)
+    by (inr none) = ap (λ more. up_to k (with_sends (items_to p more) before)) none
+
+-- where numbers rise, what was handed up to the end of a session are the payloads of what was sent in it
+pub handed_in : (s n p k : ℕ) (D : List Deed) → NumbersRise D → handed (up_to k (calls_at p (history_of s n D))) ≡ map payload_of (items_sent_in p k (sent (history_of s n D)))
+handed_in s n p k [] rise = refl
+handed_in s n p k (deed ∷ D) rise = by (number p (deed ∷ D) == k) refl (handed_in s n p k D (rise_before deed D rise))
   where
     by : (b : Bool) → (number p (deed ∷ D) == k) ≡ b → handed (up_to k (calls_at p (history_of s n D))) ≡ map payload_of (items_sent_in p k (sent (history_of s n D))) → handed (up_to k (calls_at p (history_of s n (deed ∷ D)))) ≡ map payload_of (items_sent_in p k (sent (history_of s n (deed ∷ D))))
     by true is before =
         let here : number p (deed ∷ D) ≡ k = eqb-true (number p (deed ∷ D)) k is in
         ap handed (up_to_present k (calls_at p (history_of s n (deed ∷ D))) (number_is s n p (deed ∷ D) ∙ here))
-        ∙ payloads_handed s n p (deed ∷ D)
+        ∙ payloads_handed s n p (deed ∷ D) rise
         ∙ ap (λ (m : ℕ). map payload_of (items_sent_in p m (sent (history_of s n (deed ∷ D))))) here
     by false other before =
         ap handed (calls_stay s n p k deed D other)
@@ -147,22 +171,6 @@ handed_in s n p k (deed ∷ D) = by (number p (deed ∷ D) == k) refl (handed_in
         ∙ ap (map payload_of) (sym (sent_stays s n p k deed D other))
 
 -- ---- what is acted on
-
--- what was acted on is what was acted on in the present session
-pub acted_is : (p : ℕ) (D : List Deed) → acted p D ≡ acted_during p (number p D) D
-acted_is p [] = refl
-acted_is p (did.Act q j ∷ D) =
-    ap (λ pairs. cond (q == p) (pairs ++ (j, item_at p j D) ∷ []) pairs) (acted_is p D)
-    ∙ by (q == p) (number p D == number p D) (eq-eqb (number p D) (number p D) refl)
-  where
-    by : (own now : Bool) → now ≡ true → cond own (acted_during p (number p D) D ++ (j, item_at p j D) ∷ []) (acted_during p (number p D) D) ≡ cond (own && now) (acted_during p (number p D) D ++ (j, item_at p j D) ∷ []) (acted_during p (number p D) D)
-    by true true is = refl
-    by true false is = cc
-    by false now is = refl
-acted_is p (_ ∷ D) = acted_is p D
-
-pub acted_from_is : (a b : ℕ) (J : List Entry) → acted_from a b J ≡ acted_in a b (number_at b a J) J
-acted_from_is a b J = acted_is a (deeds_at b J)
 
 -- nothing is acted on in another session than the one in which a space is then
 pub acted_stays : (p k : ℕ) (deed : Deed) (D : List Deed) → (number p (deed ∷ D) == k) ≡ false → acted_during p k (deed ∷ D) ≡ acted_during p k D

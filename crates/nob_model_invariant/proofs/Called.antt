@@ -3,7 +3,7 @@
 use Rattle.std.proofs.Common.{◌≡◌, ℕ, ◌+◌, ◌≤◌, ◌<◌, ◌&&◌, ◌||◌, not, Bool, true, false, cond, List, [], ◌∷◌, ◌++◌, map, filter, find, Option, Some, None, if◌then◌else◌, refl, sym, ap, subst, ◌∙◌, arith, ◌⊎◌, inl, inr}
 use Rattle.std.specs.Prelude.{◌==◌, nat_le}
 use Rattle.std.specs.List.{AllByRecursion, list_any, cons_option}
-use Rattle.std.proofs.lemmas.Bool.{eqb-true, eqb-false, eq-eqb, ne_eqb, and_parts, and_from, or_right, leb-true, leb-false}
+use Rattle.std.proofs.lemmas.Bool.{eqb-true, eqb-false, eq-eqb, ne_eqb, and_parts, and_from, leb-true, leb-false}
 use Rattle.std.proofs.lemmas.List.Elements.{filter_map-append}
 use Rattle.nob_ids.specs.declared.limits.Limits.{Limits}
 use Rattle.nob_ids.specs.declared.wire_rep.WireRep.{WireRep}
@@ -32,6 +32,7 @@ use Rattle.nob_model_history.specs.Ends.{items_to}
 use Rattle.nob_model_history.specs.declared.transit.SentItem.{SentItem}
 use Rattle.nob_model_history.specs.Transit.{is_sent_to, sent}
 use Rattle.nob_model_history.proofs.Numbered.{items_sent_to, gifts_sent_to, items_sent_in}
+use Rattle.nob_model_history.proofs.Sessions.{opens, number_kept}
 use Rattle.nob_model_acting.specs.Acting.{is_sent, awaits_reply}
 use Rattle.nob_model.specs.Right.{calls_made, right_after}
 use Rattle.nob_model.specs.Lists.{AreRightDeeds}
@@ -42,6 +43,9 @@ use Rattle.nob_model_invariant.specs.Asking.{items_among}
 use Rattle.nob_model_invariant.specs.Counting.{count_of, makes_call}
 use Rattle.nob_model_invariant.proofs.Counts.{none_some, one_if, count_first, count_append, count_found, any_mapped, any_weaker, any_kept, any_before, any_last}
 use Rattle.nob_model_invariant.proofs.BySession.{sent_now_more}
+use Rattle.nob_model_invariant.proofs.Opened.{opens_above}
+use Rattle.nob_model_invariant.proofs.EachSession.{closed_kept}
+use Rattle.nob_model_invariant.proofs.Anew.{none_sent_new}
 use Rattle.nob_model_invariant.proofs.Fair.{gives, no_second, count_given, notes_give}
 
 note_calls : (k : ℕ) (item : Item) → is_note item ≡ true → makes_call k item ≡ false
@@ -199,19 +203,16 @@ module _ (p k : ℕ) where
   awaits_from : (own : OwnCall) → own.call ≡ k → own.to ≡ p → is_sent own.stage ≡ true → awaits_reply p k own ≡ true
   awaits_from own call to up = and_from _ _ (and_from _ _ (eq-eqb own.call k call) (eq-eqb own.to p to)) up
 
-  closed_still : (deed : Deed) (D : List Deed) → closed p D ≡ true → closed p (deed ∷ D) ≡ true
-  closed_still (did.Closing q reason cause) D up = or_right (q == p) (closed p D) up
-  closed_still deed D up = up
-
-  replied_still : (deed : Deed) (D : List Deed) → 1 ≤ count_of (replies_to k) (items_among (acted p D)) → 1 ≤ count_of (replies_to k) (items_among (acted p (deed ∷ D)))
-  replied_still (did.Act q j) D some = elim (q == p) as (λ b. 1 ≤ count_of (replies_to k) (items_among (cond b (acted p D ++ (j, item_at p j D) ∷ []) (acted p D)))) [
+  replied_still : (deed : Deed) (D : List Deed) → opens p deed ≡ false → 1 ≤ count_of (replies_to k) (items_among (acted p D)) → 1 ≤ count_of (replies_to k) (items_among (acted p (deed ∷ D)))
+  replied_still (did.Act q j) D kept some = elim (q == p) as (λ b. 1 ≤ count_of (replies_to k) (items_among (cond b (acted p D ++ (j, item_at p j D) ∷ []) (acted p D)))) [
     | true ↦ (let more = acted_push j (item_at p j D) D in omega (arith, more, some))
     | false ↦ some
   ]
     where
       acted_push : (j : ℕ) (found : Option Item) (D : List Deed) → count_of (replies_to k) (items_among (acted p D ++ (j, found) ∷ [])) ≡ count_of (replies_to k) (items_among (acted p D)) + count_of (replies_to k) (cons_option found [])
       acted_push j found D = ap (count_of (replies_to k)) (filter_map-append (λ (pair : ℕ × Option Item). pair.1) (acted p D) ((j, found) ∷ [])) ∙ count_append (replies_to k) (items_among (acted p D)) (cons_option found [])
-  replied_still deed D some = some
+  replied_still (did.Open q j) D kept some = subst (λ (b : Bool). 1 ≤ count_of (replies_to k) (items_among (cond b [] (acted p D)))) (sym kept) some
+  replied_still deed D kept some = some
 
   -- a Reply that is acted on counts
   replied_now : (q j call status : ℕ) (value : Value) (D : List Deed) → q ≡ p → call ≡ k → item_at q j D ≡ Some (items.Reply call status value) → 1 ≤ count_of (replies_to k) (items_among (acted p (did.Act q j ∷ D)))
@@ -402,10 +403,10 @@ module _ (p k : ℕ) where
   unfolding with_loans
   loans_answer s n deed D answered = answered
 
-  still_answered : (s n : ℕ) (limits : Limits) (deed : Deed) (D : List Deed) → AreRightDeeds s n limits (deed ∷ D) → IsAnswered s n D → IsAnswered s n (deed ∷ D)
-  still_answered s n limits deed D right (inl shut) = inl (closed_still deed D shut)
-  still_answered s n limits deed D right (inr (inl some)) = inr (inl (replied_still deed D some))
-  still_answered s n limits deed D right (inr (inr waits)) = loans_answer s n deed D (deed_answers s n limits deed D right waits)
+  still_answered : (s n : ℕ) (limits : Limits) (deed : Deed) (D : List Deed) → opens p deed ≡ false → AreRightDeeds s n limits (deed ∷ D) → IsAnswered s n D → IsAnswered s n (deed ∷ D)
+  still_answered s n limits deed D kept right (inl shut) = inl (closed_kept p deed D kept shut)
+  still_answered s n limits deed D kept right (inr (inl some)) = inr (inl (replied_still deed D kept some))
+  still_answered s n limits deed D kept right (inr (inr waits)) = loans_answer s n deed D (deed_answers s n limits deed D right waits)
 
   one_some : (b : Bool) → 1 ≤ one_if b → b ≡ true
   one_some true some = refl
@@ -422,9 +423,15 @@ module _ (p k : ℕ) where
   -- a Call that was sent in the present session has its Reply acted on, or waits for one, unless the session has closed
   pub all_answered : (s n : ℕ) (limits : Limits) (D : List Deed) → AreRightDeeds s n limits D → 1 ≤ calls_now s n D → IsAnswered s n D
   all_answered s n limits [] right some = absurd (omega (arith, some))
-  all_answered s n limits (deed ∷ D) right some =
-      let more = now_more s n deed D refl in
-      elim (nat_le 1 (calls_now s n D)) as (λ b. nat_le 1 (calls_now s n D) ≡ b → IsAnswered s n (deed ∷ D)) [
-        | true ↦ λ before. still_answered s n limits deed D right (all_answered s n limits D right.1 (leb-true 1 (calls_now s n D) before))
-        | false ↦ λ none. (let few = leb-false 1 (calls_now s n D) none in new_answered s n deed D (omega (arith, some, more, few)))
-      ] refl
+  all_answered s n limits (deed ∷ D) right some = by (opens p deed) refl (all_answered s n limits D right.1)
+    where
+      by : (b : Bool) → opens p deed ≡ b → (1 ≤ calls_now s n D → IsAnswered s n D) → IsAnswered s n (deed ∷ D)
+      by true own before =
+          let none = ap (count_of (makes_call k)) (none_sent_new s n p limits deed D right (opens_above s n p limits deed D right.0 own)) in
+          absurd (omega (arith, some, none))
+      by false kept before =
+          let more = now_more s n deed D (number_kept p deed D kept) in
+          elim (nat_le 1 (calls_now s n D)) as (λ b. nat_le 1 (calls_now s n D) ≡ b → IsAnswered s n (deed ∷ D)) [
+            | true ↦ λ earlier. still_answered s n limits deed D kept right (before (leb-true 1 (calls_now s n D) earlier))
+            | false ↦ λ none. (let few = leb-false 1 (calls_now s n D) none in new_answered s n deed D (omega (arith, some, more, few)))
+          ] refl

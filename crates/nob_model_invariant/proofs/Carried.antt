@@ -20,7 +20,6 @@ use Rattle.nob_model_session.proofs.Arriving.{right_came, accepted_length}
 use Rattle.nob_model_session.proofs.Sessions.{Rises, right_rises, number_rises, up_to_present, none_above}
 use Rattle.nob_model_types.specs.declared.entry.Entry.{Entry}
 use Rattle.nob_model_history.specs.Ends.{calls_at}
-use Rattle.nob_model_history.proofs.Sessions.{opens}
 use Rattle.nob_model_history.proofs.Arriving.{accepts_more}
 use Rattle.nob_model.specs.Laws.{AreRightCalls}
 use Rattle.nob_model.proofs.Waiting.{all_weaker}
@@ -145,7 +144,12 @@ carried_later before after longer frame carried = record {
   carries = λ d. place_in_whole (handed before) longer.more (handed after) (frame.seq - 1) frame.payload longer.handed_more (carried.carries d);
 }
 
-call_longer : (call : EndEntry) (calls : List EndEntry) → opens call ≡ false → IsLonger calls (call ∷ calls)
+-- whether a call opened a session anew
+abbrev reopens : EndEntry → Bool
+reopens (ends.Reopen k (Ok done)) = true
+reopens (_) = false
+
+call_longer : (call : EndEntry) (calls : List EndEntry) → reopens call ≡ false → IsLonger calls (call ∷ calls)
 call_longer (ends.Reopen k (Ok done)) calls never = let opened : true ≡ false = never in absurd (cc)
 call_longer (ends.Send payload kind (Ok n)) calls never = record { same_session = refl; more = payload ∷ []; handed_more = refl; accepted_more = omega arith; transmitted_more = omega arith }
 call_longer (ends.Arrive frame (Ok (arrived.Took k))) calls never = record { same_session = refl; more = []; handed_more = append-nil (handed calls); accepted_more = accepts_more (is_present frame calls) (accepted calls) (filled (places (accepted_count calls + 1) k (ends.Arrive frame (Ok (arrived.Took k)) ∷ calls))); transmitted_more = omega arith }
@@ -164,7 +168,7 @@ opened_one m k frame calls rises above same session carried =
     omega (arith, above, low, first, same, session)
 
 -- a call that begins no session leaves the frames of the present one carried
-present_later : (m : ℕ) (call : EndEntry) (calls : List EndEntry) (frame : Frame) → opens call ≡ false → number calls ≡ m → IsCarried (up_to m calls) frame → IsCarried (call ∷ calls) frame
+present_later : (m : ℕ) (call : EndEntry) (calls : List EndEntry) (frame : Frame) → reopens call ≡ false → number calls ≡ m → IsCarried (up_to m calls) frame → IsCarried (call ∷ calls) frame
 present_later m call calls frame none is carried = carried_later calls (call ∷ calls) (call_longer call calls none) frame (subst (λ before. IsCarried before frame) (up_to_present m calls is) carried)
 
 in_present : (m : ℕ) (call : EndEntry) (calls : List EndEntry) (frame : Frame) → Rises (call ∷ calls) → number (call ∷ calls) ≡ m → frame.session ≡ m → IsCarried (up_to m calls) frame → IsCarried (call ∷ calls) frame

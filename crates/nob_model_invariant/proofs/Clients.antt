@@ -14,17 +14,20 @@ use Rattle.nob_model_types.specs.declared.deed.Deed.{Deed}
 use Rattle.nob_model_types.specs.declared.deed.Deed.TheVariants as did
 use Rattle.nob_model_types.specs.declared.turns.Turns.{Turns}
 use Rattle.nob_model_types.specs.Sessions.{is_peer, item_at, acted, number}
-use Rattle.nob_model_types.specs.Turns.{turns, turns_after, is_pending, is_granted, is_standing, wants_dirty, with_dirty, with_answer, with_clean, carries, names}
+use Rattle.nob_model_types.specs.Turns.{no_turns, turns, turns_after, is_pending, is_granted, is_standing, wants_dirty, with_dirty, with_answer, with_clean, carries, names}
 use Rattle.nob_model_work.specs.Work.{work}
 use Rattle.nob_model_work.specs.Gifts.{gifts, gifts_of_act}
 use Rattle.nob_model_history.specs.Premises.{AnswersPending}
+use Rattle.nob_model_history.proofs.Sessions.{number_kept}
 use Rattle.nob_model_history.proofs.Dirtying.{same_flip}
 use Rattle.nob_model_history.proofs.Turning.{HaveShape, shapes, wanted_none, named_ref, same_ref, granted_answered}
 use Rattle.nob_model.specs.Lists.{AreRightDeeds}
 use Rattle.nob_model.proofs.Premises.{in_turn, item_acted, took_turns}
-use Rattle.nob_model_invariant.specs.Asking.{answer_in, answers_among, items_among, word_of, turns_by, AskedInTurn}
+use Rattle.nob_model_invariant.specs.Asking.{answer_in, asks_among, answers_among, items_among, word_of, turns_by, AskedInTurn}
 use Rattle.nob_model_invariant.proofs.Bools.{turns_dirty, turns_clean, turns_answer, none_asked, dirty_in_turn, answer_in_turn, clean_in_turn}
 use Rattle.nob_model_history.proofs.Unasked.{is_message}
+use Rattle.nob_model_invariant.proofs.Opened.{opens_above}
+use Rattle.nob_model_invariant.proofs.Anew.{none_sent_new}
 use Rattle.nob_model_invariant.proofs.Asked.{may_ask, asks_of, gifts_ask, asks_more, asks_nothing, clean_asked, message_asked}
 
 -- what space s was answered by the owner of a reference
@@ -50,6 +53,10 @@ clean_peer : (s n : ℕ) (rep : WireRep) (b : Bool) (t : Turns) → (t.asks ≡ 
 clean_peer s n rep true t before asks = cc
 clean_peer s n rep false t before asks = before asks
 
+opened_peer : (s n : ℕ) (rep : WireRep) (b : Bool) (t : Turns) → (t.asks ≡ true → is_peer s n rep.owner ≡ true) → (cond b no_turns t).asks ≡ true → is_peer s n rep.owner ≡ true
+opened_peer s n rep true t before asks = cc
+opened_peer s n rep false t before asks = before asks
+
 wanted_peer : (s n : ℕ) (rep : WireRep) (D : List Deed) (carried : Bool) → (carried && wants_dirty s n rep D (turns s n rep D)) ≡ true → is_peer s n rep.owner ≡ true
 wanted_peer s n rep D carried both = (and_parts _ _ (and_parts _ _ (and_parts _ _ both).1).0).0
 
@@ -68,6 +75,7 @@ pub asks_peer : (s n : ℕ) (rep : WireRep) (D : List Deed) → (turns s n rep D
 asks_peer s n rep [] asks = cc
 asks_peer s n rep (did.Act p k ∷ D) asks = item_peer s n p rep (item_at p k D) D (asks_peer s n rep D) asks
 asks_peer s n rep (did.Clean other ∷ D) asks = clean_peer s n rep (is_same rep other) (turns s n rep D) (asks_peer s n rep D) asks
+asks_peer s n rep (did.Open q k ∷ D) asks = opened_peer s n rep (q == rep.owner) (turns s n rep D) (asks_peer s n rep D) asks
 asks_peer s n rep (deed ∷ D) asks = asks_peer s n rep D asks
 
 -- ---- one turn more
@@ -202,9 +210,33 @@ clean_turned s n rep other D granted turned =
     (subst (λ more. AreBy (turns s n rep (did.Clean other ∷ D)) (asks_of s n rep D ++ more) (answers_of rep D)) (sym asked)
     (clean_step (is_same rep other) (turns s n rep D) (asks_of s n rep D) (answers_of rep D) (λ same. subst (λ (r : WireRep). is_granted (turns s n r D) ≡ true) (sym (same_ref rep other same)) granted) (turned.turns_are, turned.taken)))
 
+-- before anything is asked in a session
+turned_none : (s n : ℕ) (rep : WireRep) (D : List Deed) → turns s n rep D ≡ no_turns → asks_of s n rep D ≡ [] → answers_of rep D ≡ [] → IsTurned s n rep D
+turned_none s n rep D turned asked answered =
+    let own : AreBy (turns s n rep D) (asks_of s n rep D) (answers_of rep D) =
+    subst (λ t. AreBy t (asks_of s n rep D) (answers_of rep D)) (sym turned)
+    (subst (λ asks. AreBy no_turns asks (answers_of rep D)) (sym asked)
+    (subst (λ answers. AreBy no_turns [] answers) (sym answered) (refl, none_asked))) in
+    record { turns_are = own.0; taken = own.1 }
+
+-- a session with the owner that opens begins so
+opened_turned : (s n : ℕ) (limits : Limits) (rep : WireRep) (q k : ℕ) (D : List Deed) → AreRightDeeds s n limits (did.Open q k ∷ D) → IsTurned s n rep D → IsTurned s n rep (did.Open q k ∷ D)
+opened_turned s n limits rep q k D right turned = by (q == rep.owner) refl
+  where
+    answered : (own : Bool) → (q == rep.owner) ≡ own → answers_of rep (did.Open q k ∷ D) ≡ answers_among rep.index (items_among (cond own [] (acted rep.owner D)))
+    answered own is = ap (λ (b : Bool). answers_among rep.index (items_among (cond b [] (acted rep.owner D)))) is
+
+    turns_then : (own : Bool) → (q == rep.owner) ≡ own → turns s n rep (did.Open q k ∷ D) ≡ cond own no_turns (turns s n rep D)
+    turns_then own is = ap (λ (b : Bool). cond b no_turns (turns s n rep D)) is
+
+    by : (own : Bool) → (q == rep.owner) ≡ own → IsTurned s n rep (did.Open q k ∷ D)
+    by true own = turned_none s n rep (did.Open q k ∷ D) (turns_then true own) (ap (asks_among rep.index) (none_sent_new s n rep.owner limits (did.Open q k) D right (opens_above s n rep.owner limits (did.Open q k) D right.0 own))) (answered true own)
+    by false other = other_turned s n rep (did.Open q k) D (number_kept rep.owner (did.Open q k) D other) refl (answered false other) (turns_then false other) turned
+
 -- in every list of right deeds client and owner took turns
 pub are_turned : (s n : ℕ) (limits : Limits) (rep : WireRep) (D : List Deed) → AreRightDeeds s n limits D → IsTurned s n rep D
 are_turned s n limits rep [] right = record { turns_are = refl; taken = none_asked }
 are_turned s n limits rep (did.Act p k ∷ D) right = act_turned s n limits rep p k D right (are_turned s n limits rep D right.1)
 are_turned s n limits rep (did.Clean other ∷ D) right = clean_turned s n rep other D (took_turns s n limits (did.Clean other ∷ D) right).0 (are_turned s n limits rep D right.1)
+are_turned s n limits rep (did.Open q k ∷ D) right = opened_turned s n limits rep q k D right (are_turned s n limits rep D right.1)
 are_turned s n limits rep (deed ∷ D) right = other_turned s n rep deed D refl refl refl refl (are_turned s n limits rep D right.1)

@@ -31,6 +31,7 @@ use Rattle.nob_model_work.specs.Gifts.{value_of}
 use Rattle.nob_model_history.specs.Ends.{calls_at}
 use Rattle.nob_model.proofs.Accepted.{accepted, err_ok}
 use Rattle.nob_model_acting.specs.Sending.{◌or_else◌, unless, value_refused, send_refused, has_numbers}
+use Rattle.nob_model.specs.Opening.{right_open}
 use Rattle.nob_model.specs.Right.{right_export, right_dup, right_release, right_call, answer_of_reply, answer_of_stage, answer_of_call, take_of, right_take_reply, job_of, claim_of, right_claim, has_ended, finish_of, right_finish, settle_count, settle_of, right_settle, last_number, clean_of, right_clean, right_withdraw, right_frames, right_after}
 use Rattle.nob_model_acting.specs.Candidates.{to_settle, to_clean, to_claim}
 
@@ -95,6 +96,9 @@ withdrawn_clash reason e = cc
 frames_clash : (frames : List Frame) (reason : Reason) → answers.Frames frames ≡ answers.Closed reason → ⊥
 frames_clash frames reason e = cc
 
+opened_clash : (number : ℕ) (reason : Reason) → answers.Opened number ≡ answers.Closed reason → ⊥
+opened_clash number reason e = cc
+
 reply_keeps : (item : Item) (h : History) (reason : Reason) → Closes (answer_of_reply item h) reason → ⊥
 unfolding answer_of_reply
 reply_keeps (items.Reply call status value) h reason e = replied_clash status value reason (unless_closed _ _ reason e)
@@ -152,7 +156,7 @@ clean_keeps (Some rep) h reason e = if_closed (has_numbers rep.owner 1 h) (Ok (a
 
 -- only Act, Arrive, Tick and Close close sessions
 pub others_keep : (s n : ℕ) (limits : Limits) (h : History) (event : Event) (reason : Reason) → may_close event ≡ false → Closes (right_after s n limits h event) reason → ⊥
-unfolding right_after right_export right_dup right_release right_call right_take_reply right_claim right_finish right_settle right_clean right_withdraw right_frames
+unfolding right_after right_export right_dup right_release right_call right_take_reply right_claim right_finish right_settle right_clean right_withdraw right_frames right_open
 others_keep s n limits h events.Export reason none e = exported_clash _ reason (unless_closed _ _ reason e)
 others_keep s n limits h (events.Dup rep) reason none e = done_clash reason (unless_closed _ _ reason e)
 others_keep s n limits h (events.Release rep) reason none e = done_clash reason (unless_closed _ _ reason e)
@@ -164,6 +168,7 @@ others_keep s n limits h events.Settle reason none e = settle_keeps s n (to_sett
 others_keep s n limits h events.Clean reason none e = clean_keeps (to_clean s n h) h reason e
 others_keep s n limits h (events.Withdraw index) reason none e = withdrawn_clash reason (unless_closed _ _ reason e)
 others_keep s n limits h (events.Transmit p) reason none e = if_closed (not (is_peer s n p)) (Err refusals.NoPeer) (Ok (answers.Frames (right_transmit s p limits.window (calls_at p h)))) reason e (λ f. err_ok refusals.NoPeer _ f) (λ f. frames_clash _ reason (ok_same _ _ f))
+others_keep s n limits h (events.Open p) reason none e = opened_clash _ reason (unless_closed _ _ reason e)
 others_keep s n limits h (events.Act p) reason none e = cc
 others_keep s n limits h (events.Arrive frame) reason none e = cc
 others_keep s n limits h (events.Tick p) reason none e = cc

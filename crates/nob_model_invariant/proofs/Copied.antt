@@ -1,9 +1,9 @@
 -- The copies of a reference that a space acted on since it last gave it up: where it has no surrogate there are none, and
 -- while it is pending each waits in its message, or came in a session that the space has left.
-use Rattle.std.proofs.Common.{◌≡◌, ℕ, ◌+◌, ◌-◌, ◌&&◌, ◌||◌, not, Bool, true, false, cond, List, [], ◌∷◌, ◌++◌, length, map, Option, Some, None, refl, sym, ap, subst, ◌∙◌, arith, ◌⊎◌, inl, inr}
+use Rattle.std.proofs.Common.{◌≡◌, ℕ, ◌+◌, ◌-◌, ◌≤◌, ◌&&◌, ◌||◌, not, Bool, true, false, cond, List, [], ◌∷◌, ◌++◌, length, map, Option, Some, None, refl, sym, ap, subst, ◌∙◌, arith, ◌⊎◌, inl, inr}
 use Rattle.std.specs.Prelude.{◌==◌}
 use Rattle.std.specs.List.{AllByRecursion, list_any, list_all, slice_get}
-use Rattle.std.proofs.lemmas.Bool.{eq-eqb, and_parts, and_from, or_left, or_right, not-true, both_ways, not_from_false}
+use Rattle.std.proofs.lemmas.Bool.{eqb-true, eq-eqb, and_parts, and_from, or_left, or_right, not-true, both_ways, not_from_false}
 use Rattle.nob_ids.specs.Names.{is_same}
 use Rattle.nob_ids.specs.declared.limits.Limits.{Limits}
 use Rattle.nob_ids.specs.declared.wire_rep.WireRep.{WireRep}
@@ -14,21 +14,24 @@ use Rattle.nob_model_types.specs.declared.deed.Deed.TheVariants as did
 use Rattle.nob_model_types.specs.declared.message.Message.{Message}
 use Rattle.nob_model_types.specs.declared.message.RefCopy.{RefCopy}
 use Rattle.nob_model_types.specs.Sessions.{is_peer, closed, number, item_at, acted}
-use Rattle.nob_model_types.specs.Turns.{turns, is_own, is_resolved, is_pending, is_granted, is_refused, is_standing, with_clean, wants_dirty, carries}
+use Rattle.nob_model_types.specs.Turns.{no_turns, turns, is_own, is_resolved, is_pending, is_granted, is_refused, is_standing, with_clean, wants_dirty, carries}
 use Rattle.nob_model_types.specs.Messages.{message_after, is_of}
 use Rattle.nob_model_work.specs.Work.{work}
 use Rattle.nob_model_history.specs.Histories.{history_of}
 use Rattle.nob_model_history.specs.Premises.{TookTurns}
+use Rattle.nob_model_history.proofs.Sessions.{number_kept}
 use Rattle.nob_model_history.proofs.Inbox.{acted_takes}
 use Rattle.nob_model_history.proofs.Turning.{same_ref, shapes, pending_waits, waiting_stands, granted_answered, after_clean}
 use Rattle.nob_model_acting.specs.Candidates.{is_all_resolved}
-use Rattle.nob_model.specs.Lists.{AreRightDeeds}
+use Rattle.nob_model.specs.Lists.{IsRightDeed, AreRightDeeds}
 use Rattle.nob_model.proofs.Accepted.{found_passes}
 use Rattle.nob_model.proofs.Carrying.{Carries, all_carry, all_found}
 use Rattle.nob_model.proofs.Premises.{took_turns}
-use Rattle.nob_model.proofs.Waiting.{settled_message, act_number, all_weaker}
+use Rattle.nob_model.proofs.Waiting.{IsOpenIn, are_waiting, settled_message, act_number, all_weaker}
 use Rattle.nob_model_journal.specs.Losses.{is_carried, sources}
 use Rattle.nob_model_journal.specs.declared.losses.Source.{Source}
+use Rattle.nob_model_invariant.proofs.Opened.{opens_above, open_stays}
+use Rattle.nob_model_invariant.proofs.EachSession.{deed_rises}
 use Rattle.nob_model_invariant.proofs.Clients.{asks_peer}
 use Rattle.nob_model_holdings.proofs.Lists.{all_both, place_in_whole, some_same}
 use Rattle.nob_model_invariant.proofs.Settling.{waits_more}
@@ -43,10 +46,15 @@ use Rattle.nob_model_invariant.proofs.Standing.{WasPending, was_idle, was_pendin
 abbrev pub StandsAt : (p k : ℕ) → Item → List Deed → Type 0
 StandsAt p k item D = slice_get (acted p D) (k - 1) ≡ Some (k, Some item)
 
--- so it stays
-stands_on : (p k : ℕ) (item : Item) (deed : Deed) (D : List Deed) → StandsAt p k item D → StandsAt p k item (deed ∷ D)
-stands_on p k item (did.Act q j) D at = elim (q == p) as (λ (b : Bool). slice_get (cond b (acted p D ++ (j, item_at p j D) ∷ []) (acted p D)) (k - 1) ≡ Some (k, Some item)) [ true ↦ place_in_whole (acted p D) ((j, item_at p j D) ∷ []) _ (k - 1) (k, Some item) refl at | false ↦ at ]
-stands_on p k item deed D at = at
+-- so it stays, where the session isn't opened anew
+stands_on : (s n : ℕ) (limits : Limits) (p k : ℕ) (item : Item) (deed : Deed) (D : List Deed) → IsRightDeed s n limits deed D → number p (deed ∷ D) ≡ number p D → StandsAt p k item D → StandsAt p k item (deed ∷ D)
+stands_on s n limits p k item (did.Act q j) D right same at = elim (q == p) as (λ (b : Bool). slice_get (cond b (acted p D ++ (j, item_at p j D) ∷ []) (acted p D)) (k - 1) ≡ Some (k, Some item)) [ true ↦ place_in_whole (acted p D) ((j, item_at p j D) ∷ []) _ (k - 1) (k, Some item) refl at | false ↦ at ]
+stands_on s n limits p k item (did.Open q j) D right same at = by (q == p) refl
+  where
+    by : (own : Bool) → (q == p) ≡ own → slice_get (cond own [] (acted p D)) (k - 1) ≡ Some (k, Some item)
+    by true own = absurd (let above = opens_above s n p limits (did.Open q j) D right own in omega (arith, above, same))
+    by false other = at
+stands_on s n limits p k item deed D right same at = at
 
 at_end : {X : Type 0} (xs : List X) (x : X) → slice_get (xs ++ x ∷ []) (length xs) ≡ Some x
 at_end [] x = refl
@@ -78,7 +86,7 @@ waiting_acted s n limits [] right = tt
 waiting_acted s n limits (deed ∷ D) right =
     waits_more (IsActed (deed ∷ D)) s n deed D (acted_kept s n (deed ∷ D) (deed ∷ D))
     (λ p k item is found some. subst (λ (one : Deed). StandsAt p k item (one ∷ D)) (sym is) (stands_new s n limits p k item D (subst (λ (one : Deed). AreRightDeeds s n limits (one ∷ D)) is right) found))
-    (all_weaker (IsActed D) (IsActed (deed ∷ D)) (λ m at. stands_on m.from m.number m.item deed D at) (work s n D).waiting (waiting_acted s n limits D right.1))
+    (all_both (IsOpenIn s n D) (IsActed D) (IsActed (deed ∷ D)) (λ m up at. stands_on s n limits m.from m.number m.item deed D right.0 (open_stays s n m.from limits deed D right.0 up.0) at) (work s n D).waiting (are_waiting s n limits D right.1).0 (waiting_acted s n limits D right.1))
 
 -- ---- copies
 
@@ -86,26 +94,34 @@ waiting_acted s n limits (deed ∷ D) right =
 abbrev pub is_present : List Deed → Source → Bool
 is_present D copy = copy.session == number copy.from D
 
--- a copy of a reference that came in the present session is of an item that was acted on and carries it; and what came from the owner came in that
+-- a copy of a reference came in a session up to the present one; if in that, it is of an item that was acted on and carries it; and what came from the owner came in that
 pub record IsCopyOf (rep : WireRep) (D : List Deed) (copy : Source) : Type 0 where
+  pub low : copy.session ≤ number copy.from D
   pub of_owner : is_own copy.from rep ≡ true → is_present D copy ≡ true
   pub acted_on : is_present D copy ≡ true → (item : Item) × StandsAt copy.from copy.number item D × (carries rep item ≡ true)
 
--- a deed that leaves the number of each session
-abbrev LeavesNumbers : Deed → List Deed → Type 0
-LeavesNumbers deed D = (p : ℕ) → number p (deed ∷ D) ≡ number p D
+-- the session of a copy that came before is the present one only where the space stays in it
+module _ (s n : ℕ) (limits : Limits) (deed : Deed) (D : List Deed) (right : IsRightDeed s n limits deed D) where
+  present_stays : (copy : Source) → copy.session ≤ number copy.from D → is_present (deed ∷ D) copy ≡ true → number copy.from (deed ∷ D) ≡ number copy.from D
+  present_stays copy low present =
+      let same = eqb-true copy.session (number copy.from (deed ∷ D)) present in
+      let rises = deed_rises s n copy.from limits deed D right in
+      omega (arith, low, same, rises)
 
-still_present : (deed : Deed) (D : List Deed) (copy : Source) → LeavesNumbers deed D → is_present (deed ∷ D) copy ≡ is_present D copy
-still_present deed D copy same = ap (λ (k : ℕ). copy.session == k) (same copy.from)
+  was_present : (copy : Source) → copy.session ≤ number copy.from D → is_present (deed ∷ D) copy ≡ true → is_present D copy ≡ true
+  was_present copy low present = ap (λ (k : ℕ). copy.session == k) (sym (present_stays copy low present)) ∙ present
 
-copy_on : (rep : WireRep) (deed : Deed) (D : List Deed) → LeavesNumbers deed D → (copy : Source) → IsCopyOf rep D copy → IsCopyOf rep (deed ∷ D) copy
-copy_on rep deed D same copy its = record {
-  of_owner = λ own. still_present deed D copy same ∙ its.of_owner own;
-  acted_on = λ present. let found = its.acted_on (sym (still_present deed D copy same) ∙ present) in (found.0, stands_on copy.from copy.number found.0 deed D found.1, found.2);
-}
+  copy_on : (rep : WireRep) → number rep.owner (deed ∷ D) ≡ number rep.owner D → (copy : Source) → IsCopyOf rep D copy → IsCopyOf rep (deed ∷ D) copy
+  copy_on rep same copy its = record {
+    low = let low = its.low in let rises = deed_rises s n copy.from limits deed D right in omega (arith, low, rises);
+    of_owner = λ own. ap (λ (k : ℕ). copy.session == k) (subst (λ (p : ℕ). number p (deed ∷ D) ≡ number p D) (eqb-true rep.owner copy.from own) same) ∙ its.of_owner own;
+    acted_on = λ present.
+        let found = its.acted_on (was_present copy its.low present) in
+        (found.0, stands_on s n limits copy.from copy.number found.0 deed D right (present_stays copy its.low present) found.1, found.2);
+  }
 
-copies_on : (s n : ℕ) (rep : WireRep) (deed : Deed) (D : List Deed) → LeavesNumbers deed D → AllByRecursion (IsCopyOf rep D) (sources s n rep D) → AllByRecursion (IsCopyOf rep (deed ∷ D)) (sources s n rep D)
-copies_on s n rep deed D same all = all_weaker (IsCopyOf rep D) (IsCopyOf rep (deed ∷ D)) (copy_on rep deed D same) (sources s n rep D) all
+  copies_on : (rep : WireRep) → number rep.owner (deed ∷ D) ≡ number rep.owner D → AllByRecursion (IsCopyOf rep D) (sources s n rep D) → AllByRecursion (IsCopyOf rep (deed ∷ D)) (sources s n rep D)
+  copies_on rep same all = all_weaker (IsCopyOf rep D) (IsCopyOf rep (deed ∷ D)) (copy_on rep same) (sources s n rep D) all
 
 -- the copy that comes from p in item k
 abbrev pub new_source : (p k : ℕ) → List Deed → Source
@@ -116,7 +132,7 @@ new_copied s n limits rep p k D right None is all = all
 new_copied s n limits rep p k D right (Some item) is all = by (carries rep item) refl
   where
     by : (b : Bool) → carries rep item ≡ b → AllByRecursion (IsCopyOf rep (did.Act p k ∷ D)) (cond b (new_source p k D ∷ sources s n rep D) (sources s n rep D))
-    by true carried = (record { of_owner = λ own. eq-eqb (number p D) (number p D) refl; acted_on = λ present. (item, stands_new s n limits p k item D right is, carried) }, all)
+    by true carried = (record { low = omega arith; of_owner = λ own. eq-eqb (number p D) (number p D) refl; acted_on = λ present. (item, stands_new s n limits p k item D right is, carried) }, all)
     by false carried = all
 
 pub cleaned : {X : Type 0} (P : X → Type 0) (b : Bool) (xs : List X) → AllByRecursion P xs → AllByRecursion P (cond b [] xs)
@@ -125,9 +141,14 @@ cleaned P false xs all = all
 
 pub copies_acted : (s n : ℕ) (limits : Limits) (rep : WireRep) (D : List Deed) → AreRightDeeds s n limits D → AllByRecursion (IsCopyOf rep D) (sources s n rep D)
 copies_acted s n limits rep [] right = tt
-copies_acted s n limits rep (did.Act p k ∷ D) right = new_copied s n limits rep p k D right (item_at p k D) refl (copies_on s n rep (did.Act p k) D (λ q. refl) (copies_acted s n limits rep D right.1))
-copies_acted s n limits rep (did.Clean other ∷ D) right = cleaned (IsCopyOf rep (did.Clean other ∷ D)) (is_same rep other && (turns s n rep D).asks) (sources s n rep D) (copies_on s n rep (did.Clean other) D (λ q. refl) (copies_acted s n limits rep D right.1))
-copies_acted s n limits rep (deed ∷ D) right = copies_on s n rep deed D (λ q. refl) (copies_acted s n limits rep D right.1)
+copies_acted s n limits rep (did.Act p k ∷ D) right = new_copied s n limits rep p k D right (item_at p k D) refl (copies_on s n limits (did.Act p k) D right.0 rep refl (copies_acted s n limits rep D right.1))
+copies_acted s n limits rep (did.Clean other ∷ D) right = cleaned (IsCopyOf rep (did.Clean other ∷ D)) (is_same rep other && (turns s n rep D).asks) (sources s n rep D) (copies_on s n limits (did.Clean other) D right.0 rep refl (copies_acted s n limits rep D right.1))
+copies_acted s n limits rep (did.Open q k ∷ D) right = by (copies_acted s n limits rep D right.1) (q == rep.owner) refl
+  where
+    by : AllByRecursion (IsCopyOf rep D) (sources s n rep D) → (own : Bool) → (q == rep.owner) ≡ own → AllByRecursion (IsCopyOf rep (did.Open q k ∷ D)) (cond own [] (sources s n rep D))
+    by before true own = tt
+    by before false other = copies_on s n limits (did.Open q k) D right.0 rep (number_kept rep.owner (did.Open q k) D other) before
+copies_acted s n limits rep (deed ∷ D) right = copies_on s n limits deed D right.0 rep refl (copies_acted s n limits rep D right.1)
 
 -- ---- a message that is settled carries nothing that is pending
 
@@ -201,30 +222,32 @@ pub record AreCopied (s n : ℕ) (rep : WireRep) (D : List Deed) : Type 0 where
   pub wait : closed rep.owner D ≡ false → is_pending (turns s n rep D) ≡ true → AllByRecursion (Rests s n D) (sources s n rep D)
 
 -- while a reference is pending its copies rest
-copies_rest : (s n : ℕ) (limits : Limits) (rep : WireRep) (deed : Deed) (D : List Deed) → LeavesNumbers deed D → AreRightDeeds s n limits (deed ∷ D) → closed rep.owner D ≡ false → is_pending (turns s n rep D) ≡ true → AllByRecursion (Rests s n D) (sources s n rep D) → AllByRecursion (Rests s n (deed ∷ D)) (sources s n rep D)
-copies_rest s n limits rep deed D same right up pending all =
+copies_rest : (s n : ℕ) (limits : Limits) (rep : WireRep) (deed : Deed) (D : List Deed) → AreRightDeeds s n limits (deed ∷ D) → closed rep.owner D ≡ false → is_pending (turns s n rep D) ≡ true → AllByRecursion (Rests s n D) (sources s n rep D) → AllByRecursion (Rests s n (deed ∷ D)) (sources s n rep D)
+copies_rest s n limits rep deed D right up pending all =
     all_both (IsCopyOf rep D) (Rests s n D) (Rests s n (deed ∷ D)) one (sources s n rep D) (copies_acted s n limits rep D right.1) all
   where
     on : (copy : Source) → IsCopyOf rep D copy → is_present D copy ≡ true → (rests s n copy.from copy.number (deed ∷ D) ≡ true) ⊎ (deed ≡ did.Settle copy.from copy.number) → Rests s n (deed ∷ D) copy
     on copy its present (inl rest) = rests_then (is_waiting copy.from copy.number (work s n (deed ∷ D)).waiting) (closed copy.from (deed ∷ D)) (is_present (deed ∷ D) copy) rest
     on copy its present (inr settles) = absurd (settle_not_pending s n limits rep copy.from copy.number D (subst (λ (d : Deed). AreRightDeeds s n limits (d ∷ D)) settles right) up pending (its.acted_on present))
 
-    by : (copy : Source) → IsCopyOf rep D copy → Rests s n D copy → (b : Bool) → is_present D copy ≡ b → Rests s n (deed ∷ D) copy
+    by : (copy : Source) → IsCopyOf rep D copy → Rests s n D copy → (b : Bool) → is_present (deed ∷ D) copy ≡ b → Rests s n (deed ∷ D) copy
     by copy its rest true present =
-        on copy its present
-        (rests_on s n limits copy.from copy.number deed D right (rests_now (is_waiting copy.from copy.number (work s n D).waiting) (closed copy.from D) (is_present D copy) present rest))
-    by copy its rest false other = or_right (is_waiting copy.from copy.number (work s n (deed ∷ D)).waiting) _ (or_right (closed copy.from (deed ∷ D)) (not (is_present (deed ∷ D) copy)) (not_from_false (is_present (deed ∷ D) copy) (still_present deed D copy same ∙ other)))
+        let same = present_stays s n limits deed D right.0 copy its.low present in
+        let before = was_present s n limits deed D right.0 copy its.low present in
+        on copy its before
+        (rests_on s n limits copy.from copy.number deed D right same (rests_now (is_waiting copy.from copy.number (work s n D).waiting) (closed copy.from D) (is_present D copy) before rest))
+    by copy its rest false other = or_right (is_waiting copy.from copy.number (work s n (deed ∷ D)).waiting) _ (or_right (closed copy.from (deed ∷ D)) (not (is_present (deed ∷ D) copy)) (not_from_false (is_present (deed ∷ D) copy) other))
 
     one : (copy : Source) → IsCopyOf rep D copy → Rests s n D copy → Rests s n (deed ∷ D) copy
-    one copy its rest = by copy its rest (is_present D copy) refl
+    one copy its rest = by copy its rest (is_present (deed ∷ D) copy) refl
 
-other_copied : (s n : ℕ) (limits : Limits) (rep : WireRep) (deed : Deed) (D : List Deed) → LeavesNumbers deed D → AreRightDeeds s n limits (deed ∷ D) → turns s n rep (deed ∷ D) ≡ turns s n rep D → sources s n rep (deed ∷ D) ≡ sources s n rep D → AreCopied s n rep D → AreCopied s n rep (deed ∷ D)
+other_copied : (s n : ℕ) (limits : Limits) (rep : WireRep) (deed : Deed) (D : List Deed) → number rep.owner (deed ∷ D) ≡ number rep.owner D → AreRightDeeds s n limits (deed ∷ D) → turns s n rep (deed ∷ D) ≡ turns s n rep D → sources s n rep (deed ∷ D) ≡ sources s n rep D → AreCopied s n rep D → AreCopied s n rep (deed ∷ D)
 other_copied s n limits rep deed D leaves right same also before = record {
-  none = λ peer up idle. also ∙ before.none peer (open_before rep.owner deed D up) (ap is_standing (sym same) ∙ idle);
+  none = λ peer up idle. also ∙ before.none peer (open_before s n rep.owner limits deed D right.0 leaves up) (ap is_standing (sym same) ∙ idle);
   wait = λ up pending.
       let pended : is_pending (turns s n rep D) ≡ true = ap is_pending (sym same) ∙ pending in
-      let earlier = open_before rep.owner deed D up in
-      subst (AllByRecursion (Rests s n (deed ∷ D))) (sym also) (copies_rest s n limits rep deed D leaves right earlier pended (before.wait earlier pended));
+      let earlier = open_before s n rep.owner limits deed D right.0 leaves up in
+      subst (AllByRecursion (Rests s n (deed ∷ D))) (sym also) (copies_rest s n limits rep deed D right earlier pended (before.wait earlier pended));
 }
 
 carried_false : (carried wanted : Bool) → (carried && wanted) ≡ false → wanted ≡ true → carried ≡ false
@@ -252,7 +275,7 @@ act_copied s n limits rep p k D right before = record { none = none; wait = wait
         ap (λ (b : Bool). cond b (new_source p k D ∷ sources s n rep D) (sources s n rep D)) (carried_false (is_carried rep (item_at p k D)) _ was.1 wanted) ∙ before.none peer up was.0
 
     earlier : closed rep.owner D ≡ false → WasPending s n rep (item_at p k D) D → AllByRecursion (Rests s n (did.Act p k ∷ D)) (sources s n rep D)
-    earlier up (inl pending) = copies_rest s n limits rep (did.Act p k) D (λ q. refl) right up pending (before.wait up pending)
+    earlier up (inl pending) = copies_rest s n limits rep (did.Act p k) D right up pending (before.wait up pending)
     earlier up (inr asked) =
         let wanted = (and_parts (is_carried rep (item_at p k D)) _ asked).1 in
         let open_peer = and_parts _ _ wanted in
@@ -277,11 +300,29 @@ clean_copied s n limits rep other D right before = by (is_same rep other) refl
           none = λ peer up idle. ap (λ (b : Bool). cond (b && (turns s n rep D).asks) [] (sources s n rep D)) same ∙ ap (λ (b : Bool). cond b [] (sources s n rep D)) asks;
           wait = λ up pending. absurd (both_ways (is_pending (with_clean (turns s n rep D))) (after_clean (turns s n rep D) (granted same)).1.0 (ap is_pending (sym turned) ∙ pending));
         }
-    by false same = other_copied s n limits rep (did.Clean other) D (λ q. refl) right (ap (λ (b : Bool). cond b (with_clean (turns s n rep D)) (turns s n rep D)) same) (ap (λ (b : Bool). cond (b && (turns s n rep D).asks) [] (sources s n rep D)) same) before
+    by false same = other_copied s n limits rep (did.Clean other) D refl right (ap (λ (b : Bool). cond b (with_clean (turns s n rep D)) (turns s n rep D)) same) (ap (λ (b : Bool). cond (b && (turns s n rep D).asks) [] (sources s n rep D)) same) before
+
+-- a session with the owner that opens begins without copies
+opened_copied : (s n : ℕ) (limits : Limits) (rep : WireRep) (q k : ℕ) (D : List Deed) → AreRightDeeds s n limits (did.Open q k ∷ D) → AreCopied s n rep D → AreCopied s n rep (did.Open q k ∷ D)
+opened_copied s n limits rep q k D right before = by (q == rep.owner) refl
+  where
+    turned : (own : Bool) → (q == rep.owner) ≡ own → turns s n rep (did.Open q k ∷ D) ≡ cond own no_turns (turns s n rep D)
+    turned own is = ap (λ (b : Bool). cond b no_turns (turns s n rep D)) is
+
+    came : (own : Bool) → (q == rep.owner) ≡ own → sources s n rep (did.Open q k ∷ D) ≡ cond own [] (sources s n rep D)
+    came own is = ap (λ (b : Bool). cond b [] (sources s n rep D)) is
+
+    by : (own : Bool) → (q == rep.owner) ≡ own → AreCopied s n rep (did.Open q k ∷ D)
+    by true own = record {
+      none = λ peer up idle. came true own;
+      wait = λ up pending. absurd (let clash : false ≡ true = ap is_pending (sym (turned true own)) ∙ pending in cc);
+    }
+    by false other = other_copied s n limits rep (did.Open q k) D (number_kept rep.owner (did.Open q k) D other) right (turned false other) (came false other) before
 
 -- in every list of right deeds
 pub are_copied : (s n : ℕ) (limits : Limits) (rep : WireRep) (D : List Deed) → AreRightDeeds s n limits D → AreCopied s n rep D
 are_copied s n limits rep [] right = record { none = λ peer up idle. refl; wait = λ up pending. tt }
 are_copied s n limits rep (did.Act p k ∷ D) right = act_copied s n limits rep p k D right (are_copied s n limits rep D right.1)
 are_copied s n limits rep (did.Clean other ∷ D) right = clean_copied s n limits rep other D right (are_copied s n limits rep D right.1)
-are_copied s n limits rep (deed ∷ D) right = other_copied s n limits rep deed D (λ q. refl) right refl refl (are_copied s n limits rep D right.1)
+are_copied s n limits rep (did.Open q k ∷ D) right = opened_copied s n limits rep q k D right (are_copied s n limits rep D right.1)
+are_copied s n limits rep (deed ∷ D) right = other_copied s n limits rep deed D refl right refl refl (are_copied s n limits rep D right.1)

@@ -22,6 +22,7 @@ use Rattle.nob_model_history.specs.Histories.{history_of}
 use Rattle.nob_model_history.specs.Ends.{items_to}
 use Rattle.nob_model_history.specs.Transit.{is_sent_to, next_sent, is_some_of, is_of_present, is_settle_of, is_settled, is_pinned, pins, sent}
 use Rattle.nob_model_history.proofs.Numbered.{items_sent_in, gifts_sent_now}
+use Rattle.nob_model_history.proofs.Sessions.{opens, number_kept}
 use Rattle.nob_model_history.proofs.Sending.{new_items, new_present, sent_more}
 use Rattle.nob_model_history.proofs.Turning.{same_ref}
 use Rattle.nob_model.specs.Right.{own_ref}
@@ -35,7 +36,10 @@ use Rattle.nob_model_invariant.specs.Settles.{settles_among, is_in}
 use Rattle.nob_model_holdings.proofs.Holdings.{pins_stand}
 use Rattle.nob_model_holdings.proofs.Lists.{all_append}
 use Rattle.nob_model_invariant.proofs.Owners.{gave_of, asked_of, are_answered}
-use Rattle.nob_model_invariant.proofs.BySession.{given_elsewhere, sent_stays, acted_is, acted_stays}
+use Rattle.nob_model_invariant.proofs.BySession.{given_elsewhere, sent_stays, acted_stays}
+use Rattle.nob_model_invariant.proofs.Opened.{opens_above}
+use Rattle.nob_model_invariant.proofs.EachSession.{acted_is}
+use Rattle.nob_model_invariant.proofs.Anew.{none_sent_new}
 use Rattle.nob_model_invariant.proofs.Bundles.{settled_in}
 
 -- what went to client c in the session in which space s is, with a reference to the object of an index, is settled
@@ -81,12 +85,13 @@ settled_later : (now before : Bool) → before ≡ true → (now || before) ≡ 
 settled_later now before is = or_right now before is
 
 -- what was settled stays so
-settled_stays : (p k : ℕ) (deed : Deed) (D : List Deed) → is_settled p k D ≡ true → is_settled p k (deed ∷ D) ≡ true
-settled_stays p k (did.Act q j) D is = settled_later (q == p && is_settle_of k (item_at q j D)) (is_settled p k D) is
-settled_stays p k deed D is = is
+settled_stays : (p k : ℕ) (deed : Deed) (D : List Deed) → opens p deed ≡ false → is_settled p k D ≡ true → is_settled p k (deed ∷ D) ≡ true
+settled_stays p k (did.Act q j) D kept is = settled_later (q == p && is_settle_of k (item_at q j D)) (is_settled p k D) is
+settled_stays p k (did.Open q j) D kept is = ap (λ (b : Bool). cond b false (is_settled p k D)) kept ∙ is
+settled_stays p k deed D kept is = is
 
-still_settled : (s c x : ℕ) (deed : Deed) (D : List Deed) → number c (deed ∷ D) ≡ number c D → (all : List SentItem) → AllByRecursion (IsSettledTo s c x D) all → AllByRecursion (IsSettledTo s c x (deed ∷ D)) all
-still_settled s c x deed D here all are = all_weaker (IsSettledTo s c x D) (IsSettledTo s c x (deed ∷ D)) (λ one its to carried. settled_stays c one.number deed D (its (ap (λ (k : ℕ). is_sent_to c k one) (sym here) ∙ to) carried)) all are
+still_settled : (s c x : ℕ) (deed : Deed) (D : List Deed) → opens c deed ≡ false → (all : List SentItem) → AllByRecursion (IsSettledTo s c x D) all → AllByRecursion (IsSettledTo s c x (deed ∷ D)) all
+still_settled s c x deed D kept all are = all_weaker (IsSettledTo s c x D) (IsSettledTo s c x (deed ∷ D)) (λ one its to carried. settled_stays c one.number deed D kept (its (ap (λ (k : ℕ). is_sent_to c k one) (sym (number_kept c deed D kept)) ∙ to) carried)) all are
 
 -- ---- what is sent now
 
@@ -98,11 +103,11 @@ new_settled s c x D E (gift ∷ more) before dead are = (λ to carried. absurd (
     eq_self : (m : ℕ) → (m == m) ≡ true
     eq_self m = eq-eqb m m refl
 
-sent_settled : (s n : ℕ) (limits : Limits) (c x : ℕ) (deed : Deed) (D : List Deed) → number c (deed ∷ D) ≡ number c D → AreRightDeeds s n limits (deed ∷ D) → is_live s x D ≡ false → AllByRecursion (IsSettledTo s c x D) (sent (history_of s n D)) → AllByRecursion (IsSettledTo s c x (deed ∷ D)) (sent (history_of s n (deed ∷ D)))
+sent_settled : (s n : ℕ) (limits : Limits) (c x : ℕ) (deed : Deed) (D : List Deed) → opens c deed ≡ false → AreRightDeeds s n limits (deed ∷ D) → is_live s x D ≡ false → AllByRecursion (IsSettledTo s c x D) (sent (history_of s n D)) → AllByRecursion (IsSettledTo s c x (deed ∷ D)) (sent (history_of s n (deed ∷ D)))
 unfolding gifts
-sent_settled s n limits c x deed D here right dead before =
+sent_settled s n limits c x deed D kept right dead before =
     subst (AllByRecursion (IsSettledTo s c x (deed ∷ D))) (sym (sent_more s n deed D))
-    (all_append (IsSettledTo s c x (deed ∷ D)) (sent (history_of s n D)) _ (still_settled s c x deed D here (sent (history_of s n D)) before)
+    (all_append (IsSettledTo s c x (deed ∷ D)) (sent (history_of s n D)) _ (still_settled s c x deed D kept (sent (history_of s n D)) before)
     (new_settled s c x D (deed ∷ D) (gifts s n deed D (work s n D)) (sent (history_of s n D)) dead (all_filter (λ (gift : Gift). GuardsItem s D gift.item) (λ (gift : Gift). is_peer s n gift.to) (gifts_of s n deed D (work s n D)) (gifts_guarded s n limits deed D right.0))))
 
 -- ---- one deed more
@@ -124,11 +129,11 @@ own_act s n limits c x k D right refuses =
     (unpinned_settled s n limits c x D right.1 dead (act_open s n limits c k D right.0)) (sent (history_of s n D)) (pins_stand s n D))
 
 -- what is answered to a client by a deed that acts on nothing from it
-same_answers : (s n : ℕ) (limits : Limits) (c x : ℕ) (deed : Deed) (D : List Deed) → number c (deed ∷ D) ≡ number c D → AreRightDeeds s n limits (deed ∷ D) → asked_of c x (deed ∷ D) ≡ asked_of c x D → gave_of s n c x (deed ∷ D) ≡ gave_of s n c x D
-same_answers s n limits c x deed D here right same =
+same_answers : (s n : ℕ) (limits : Limits) (c x : ℕ) (deed : Deed) (D : List Deed) → opens c deed ≡ false → AreRightDeeds s n limits (deed ∷ D) → asked_of c x (deed ∷ D) ≡ asked_of c x D → gave_of s n c x (deed ∷ D) ≡ gave_of s n c x D
+same_answers s n limits c x deed D kept right same =
     let more : List Bool = answers_among x (items_to c (gifts s n deed D (work s n D))) in
     let longer : gave_of s n c x (deed ∷ D) ≡ gave_of s n c x D ++ more =
-    ap (λ (k : ℕ). answers_among x (items_sent_in c k (sent (history_of s n (deed ∷ D))))) here
+    ap (λ (k : ℕ). answers_among x (items_sent_in c k (sent (history_of s n (deed ∷ D))))) (number_kept c deed D kept)
     ∙ ap (answers_among x) (gifts_sent_now c D (gifts s n deed D (work s n D)) (sent (history_of s n D)))
     ∙ filter_map-append (answer_in x) (items_sent_in c (number c D) (sent (history_of s n D))) (items_to c (gifts s n deed D (work s n D))) in
     let now : length (gave_of s n c x (deed ∷ D)) ≡ dirties_in (asked_of c x (deed ∷ D)) = (are_answered s n limits c x (deed ∷ D) right).in_turn.each in
@@ -136,10 +141,10 @@ same_answers s n limits c x deed D here right same =
     let size : length (gave_of s n c x D) + length more ≡ length (gave_of s n c x D) = sym (length-append (gave_of s n c x D) more) ∙ ap length (sym longer) ∙ now ∙ ap dirties_in same ∙ sym earlier in
     longer ∙ ap (λ bs. gave_of s n c x D ++ bs) (nil_from_length more (omega (arith, size))) ∙ append-nil (gave_of s n c x D)
 
-other_deed : (s n : ℕ) (limits : Limits) (c x : ℕ) (deed : Deed) (D : List Deed) → number c (deed ∷ D) ≡ number c D → AreRightDeeds s n limits (deed ∷ D) → asked_of c x (deed ∷ D) ≡ asked_of c x D → (has_no (gave_of s n c x D) ≡ true → AllByRecursion (IsSettledTo s c x D) (sent (history_of s n D))) → has_no (gave_of s n c x (deed ∷ D)) ≡ true → AllByRecursion (IsSettledTo s c x (deed ∷ D)) (sent (history_of s n (deed ∷ D)))
-other_deed s n limits c x deed D here right same before refuses =
-    let earlier : has_no (gave_of s n c x D) ≡ true = ap has_no (sym (same_answers s n limits c x deed D here right same)) ∙ refuses in
-    sent_settled s n limits c x deed D here right (dead_of s n limits c x D right.1 earlier) (before earlier)
+other_deed : (s n : ℕ) (limits : Limits) (c x : ℕ) (deed : Deed) (D : List Deed) → opens c deed ≡ false → AreRightDeeds s n limits (deed ∷ D) → asked_of c x (deed ∷ D) ≡ asked_of c x D → (has_no (gave_of s n c x D) ≡ true → AllByRecursion (IsSettledTo s c x D) (sent (history_of s n D))) → has_no (gave_of s n c x (deed ∷ D)) ≡ true → AllByRecursion (IsSettledTo s c x (deed ∷ D)) (sent (history_of s n (deed ∷ D)))
+other_deed s n limits c x deed D kept right same before refuses =
+    let earlier : has_no (gave_of s n c x D) ≡ true = ap has_no (sym (same_answers s n limits c x deed D kept right same)) ∙ refuses in
+    sent_settled s n limits c x deed D kept right (dead_of s n limits c x D right.1 earlier) (before earlier)
 
 act_deed : (s n : ℕ) (limits : Limits) (c x q k : ℕ) (D : List Deed) → AreRightDeeds s n limits (did.Act q k ∷ D) → (has_no (gave_of s n c x D) ≡ true → AllByRecursion (IsSettledTo s c x D) (sent (history_of s n D))) → has_no (gave_of s n c x (did.Act q k ∷ D)) ≡ true → (own : Bool) → (q == c) ≡ own → AllByRecursion (IsSettledTo s c x (did.Act q k ∷ D)) (sent (history_of s n (did.Act q k ∷ D)))
 act_deed s n limits c x q k D right before refuses true own =
@@ -148,10 +153,18 @@ act_deed s n limits c x q k D right before refuses true own =
 act_deed s n limits c x q k D right before refuses false own =
     other_deed s n limits c x (did.Act q k) D refl right (ap (λ (b : Bool). asks_among x (items_among (cond b (acted c D ++ (k, item_at c k D) ∷ []) (acted c D)))) own) before refuses
 
+-- where its session is opened anew it was denied nothing
+open_deed : (s n : ℕ) (limits : Limits) (c x q k : ℕ) (D : List Deed) → AreRightDeeds s n limits (did.Open q k ∷ D) → (has_no (gave_of s n c x D) ≡ true → AllByRecursion (IsSettledTo s c x D) (sent (history_of s n D))) → has_no (gave_of s n c x (did.Open q k ∷ D)) ≡ true → (own : Bool) → (q == c) ≡ own → AllByRecursion (IsSettledTo s c x (did.Open q k ∷ D)) (sent (history_of s n (did.Open q k ∷ D)))
+open_deed s n limits c x q k D right before refuses true own =
+    absurd (both_ways (has_no (gave_of s n c x (did.Open q k ∷ D))) (ap (λ more. has_no (answers_among x more)) (none_sent_new s n c limits (did.Open q k) D right (opens_above s n c limits (did.Open q k) D right.0 own))) refuses)
+open_deed s n limits c x q k D right before refuses false other =
+    other_deed s n limits c x (did.Open q k) D other right (ap (λ (b : Bool). asks_among x (items_among (cond b [] (acted c D)))) other) before refuses
+
 -- in every list of right deeds all that went to a client with a reference to what it was denied is settled
 pub denied_settled : (s n : ℕ) (limits : Limits) (c x : ℕ) (D : List Deed) → AreRightDeeds s n limits D → has_no (gave_of s n c x D) ≡ true → AllByRecursion (IsSettledTo s c x D) (sent (history_of s n D))
 denied_settled s n limits c x [] right refuses = tt
 denied_settled s n limits c x (did.Act q k ∷ D) right refuses = act_deed s n limits c x q k D right (denied_settled s n limits c x D right.1) refuses (q == c) refl
+denied_settled s n limits c x (did.Open q k ∷ D) right refuses = open_deed s n limits c x q k D right (denied_settled s n limits c x D right.1) refuses (q == c) refl
 denied_settled s n limits c x (deed ∷ D) right refuses = other_deed s n limits c x deed D refl right refl (denied_settled s n limits c x D right.1) refuses
 
 -- ---- each session
@@ -163,7 +176,7 @@ IsSettledIn s c x k D one = is_sent_to c k one ≡ true → carries (own_ref s x
 settled_now : (s n : ℕ) (limits : Limits) (c x : ℕ) (D : List Deed) → AreRightDeeds s n limits D → has_no (gave_of s n c x D) ≡ true → AllByRecursion (IsSettledIn s c x (number c D) D) (sent (history_of s n D))
 settled_now s n limits c x D right refuses =
     all_weaker (IsSettledTo s c x D) (IsSettledIn s c x (number c D) D)
-    (λ one its to carried. subst (λ pairs. is_in one.number (settles_among (items_among pairs)) ≡ true) (acted_is c D) (settled_in c one.number D (its to carried)))
+    (λ one its to carried. subst (λ pairs. is_in one.number (settles_among (items_among pairs)) ≡ true) (acted_is s n c limits D right) (settled_in c one.number D (its to carried)))
     (sent (history_of s n D)) (denied_settled s n limits c x D right refuses)
 
 -- what is sent in another session

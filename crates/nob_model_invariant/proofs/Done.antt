@@ -13,6 +13,7 @@ use Rattle.nob_model_types.specs.Sessions.{is_peer, item_at, acted}
 use Rattle.nob_model_types.specs.Messages.{new_message, message_after, is_of}
 use Rattle.nob_model_work.specs.Work.{work}
 use Rattle.nob_model_history.specs.Histories.{history_of}
+use Rattle.nob_model_history.proofs.Sessions.{opens, number_kept}
 use Rattle.nob_model.specs.Right.{right_after}
 use Rattle.nob_model.specs.Lists.{IsRightDeed, AreRightDeeds}
 use Rattle.nob_model.proofs.Accepted.{act_tells}
@@ -52,9 +53,9 @@ settles_before : (s n p k q j : ℕ) (D : List Deed) (m : Message) → find (is_
 settles_before s n p k q j D m found is =
     ap (is_in k) (settles_now s n p q j D m found) ∙ list_any-append (λ i. i == k) (settles_of s n p D) (cond (is_peer s n q && q == p) (j ∷ []) []) ∙ or_left (is_in k (settles_of s n p D)) _ is
 
-settles_still : (s n : ℕ) (limits : Limits) (p k : ℕ) (deed : Deed) (D : List Deed) → AreRightDeeds s n limits (deed ∷ D) → is_in k (settles_of s n p D) ≡ true → is_in k (settles_of s n p (deed ∷ D)) ≡ true
-settles_still s n limits p k (did.Settle q j) D right is = let told = settled_message s n limits q j D right in settles_before s n p k q j D told.0 told.4 is
-settles_still s n limits p k deed D right is = ap (is_in k) (settles_same s n p deed D refl refl) ∙ is
+settles_still : (s n : ℕ) (limits : Limits) (p k : ℕ) (deed : Deed) (D : List Deed) → opens p deed ≡ false → AreRightDeeds s n limits (deed ∷ D) → is_in k (settles_of s n p D) ≡ true → is_in k (settles_of s n p (deed ∷ D)) ≡ true
+settles_still s n limits p k (did.Settle q j) D kept right is = let told = settled_message s n limits q j D right in settles_before s n p k q j D told.0 told.4 is
+settles_still s n limits p k deed D kept right is = ap (is_in k) (settles_same s n p deed D (number_kept p deed D kept) refl) ∙ is
 
 one_in : (k : ℕ) (b : Bool) → b ≡ true → is_in k (cond b (k ∷ []) []) ≡ true
 one_in k true is = or_left (k == k) false (eq-eqb k k refl)
@@ -75,16 +76,16 @@ settles_own s n limits p k D right =
 abbrev pub IsDone : (s n p : ℕ) → List Deed → (ℕ × Option Item) → Type 0
 IsDone s n p D pair = carries_any pair.1 ≡ true → (rests s n p pair.0 D || is_in pair.0 (settles_of s n p D)) ≡ true
 
-still_done : (s n : ℕ) (limits : Limits) (p : ℕ) (deed : Deed) (D : List Deed) → AreRightDeeds s n limits (deed ∷ D) → (pair : ℕ × Option Item) → IsDone s n p D pair → IsDone s n p (deed ∷ D) pair
-still_done s n limits p deed D right pair done some = by (or_cases (rests s n p pair.0 D) (is_in pair.0 (settles_of s n p D)) (done some))
+still_done : (s n : ℕ) (limits : Limits) (p : ℕ) (deed : Deed) (D : List Deed) → opens p deed ≡ false → AreRightDeeds s n limits (deed ∷ D) → (pair : ℕ × Option Item) → IsDone s n p D pair → IsDone s n p (deed ∷ D) pair
+still_done s n limits p deed D kept right pair done some = by (or_cases (rests s n p pair.0 D) (is_in pair.0 (settles_of s n p D)) (done some))
   where
     on : (rests s n p pair.0 (deed ∷ D) ≡ true) ⊎ (deed ≡ did.Settle p pair.0) → (rests s n p pair.0 (deed ∷ D) || is_in pair.0 (settles_of s n p (deed ∷ D))) ≡ true
     on (inl rest) = or_left _ _ rest
     on (inr settles) = or_right _ _ (subst (λ (one : Deed). is_in pair.0 (settles_of s n p (one ∷ D)) ≡ true) (sym settles) (settles_own s n limits p pair.0 D (subst (λ (one : Deed). AreRightDeeds s n limits (one ∷ D)) settles right)))
 
     by : (rests s n p pair.0 D ≡ true) ⊎ (is_in pair.0 (settles_of s n p D) ≡ true) → (rests s n p pair.0 (deed ∷ D) || is_in pair.0 (settles_of s n p (deed ∷ D))) ≡ true
-    by (inl rest) = on (rests_on s n limits p pair.0 deed D right rest)
-    by (inr settled) = or_right _ _ (settles_still s n limits p pair.0 deed D right settled)
+    by (inl rest) = on (rests_on s n limits p pair.0 deed D right (number_kept p deed D kept) rest)
+    by (inr settled) = or_right _ _ (settles_still s n limits p pair.0 deed D kept right settled)
 
 new_done : (s n p k : ℕ) (D : List Deed) (found : Option Item) → item_at p k D ≡ found → carries_any found ≡ true → (rests s n p k (did.Act p k ∷ D) || is_in k (settles_of s n p (did.Act p k ∷ D))) ≡ true
 new_done s n p k D None is some = cc
@@ -97,9 +98,14 @@ act_done s n p q k D true own before =
     (subst (λ (r : ℕ). IsDone s n p (did.Act r k ∷ D) (k, item_at p k D)) (sym same) (λ some. new_done s n p k D (item_at p k D) refl some), tt)
 act_done s n p q k D false own before = before
 
+open_done : (s n : ℕ) (limits : Limits) (p q k : ℕ) (D : List Deed) → AreRightDeeds s n limits (did.Open q k ∷ D) → (own : Bool) → (q == p) ≡ own → AllByRecursion (IsDone s n p D) (acted p D) → AllByRecursion (IsDone s n p (did.Open q k ∷ D)) (cond own [] (acted p D))
+open_done s n limits p q k D right true own before = tt
+open_done s n limits p q k D right false other before = all_weaker (IsDone s n p D) (IsDone s n p (did.Open q k ∷ D)) (λ pair done. still_done s n limits p (did.Open q k) D other right pair done) (acted p D) before
+
 -- in every list of right deeds what was acted on is settled, or its message waits, or its session closed
 pub all_done : (s n : ℕ) (limits : Limits) (p : ℕ) (D : List Deed) → AreRightDeeds s n limits D → AllByRecursion (IsDone s n p D) (acted p D)
 all_done s n limits p [] right = tt
 all_done s n limits p (did.Act q k ∷ D) right =
-    act_done s n p q k D (q == p) refl (all_weaker (IsDone s n p D) (IsDone s n p (did.Act q k ∷ D)) (λ pair done. still_done s n limits p (did.Act q k) D right pair done) (acted p D) (all_done s n limits p D right.1))
-all_done s n limits p (deed ∷ D) right = all_weaker (IsDone s n p D) (IsDone s n p (deed ∷ D)) (λ pair done. still_done s n limits p deed D right pair done) (acted p D) (all_done s n limits p D right.1)
+    act_done s n p q k D (q == p) refl (all_weaker (IsDone s n p D) (IsDone s n p (did.Act q k ∷ D)) (λ pair done. still_done s n limits p (did.Act q k) D refl right pair done) (acted p D) (all_done s n limits p D right.1))
+all_done s n limits p (did.Open q k ∷ D) right = open_done s n limits p q k D right (q == p) refl (all_done s n limits p D right.1)
+all_done s n limits p (deed ∷ D) right = all_weaker (IsDone s n p D) (IsDone s n p (deed ∷ D)) (λ pair done. still_done s n limits p deed D refl right pair done) (acted p D) (all_done s n limits p D right.1)

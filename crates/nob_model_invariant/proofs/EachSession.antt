@@ -1,21 +1,24 @@
 -- What is true of the session in which a space is, is true of each in which it has been: a deed sends and acts in that session alone
 -- to which it comes, and a session that it opens is above.
-use Rattle.std.proofs.Common.{◌≡◌, ℕ, ◌≤◌, Bool, true, false, List, [], ◌∷◌, Option, refl, sym, ap, subst, ◌∙◌, ◌⊎◌, inl, inr, arith}
+use Rattle.std.proofs.Common.{◌≡◌, ℕ, ◌≤◌, ◌&&◌, Bool, true, false, cond, List, [], ◌∷◌, ◌++◌, Option, refl, sym, ap, subst, ◌∙◌, ◌⊎◌, inl, inr, arith}
 use Rattle.std.specs.Prelude.{◌==◌, ◌≢◌, ◌<◌}
-use Rattle.std.proofs.lemmas.Bool.{eqb-true, ne_eqb, or_right}
+use Rattle.std.proofs.lemmas.Bool.{eqb-true, eq-eqb, ne_eqb, or_right}
 use Rattle.nob_ids.specs.declared.limits.Limits.{Limits}
 use Rattle.nob_item.specs.declared.item.Item.{Item}
 use Rattle.nob_model_types.specs.declared.entry.Entry.{Entry}
 use Rattle.nob_model_types.specs.declared.deed.Deed.{Deed}
 use Rattle.nob_model_types.specs.declared.deed.Deed.TheVariants as did
-use Rattle.nob_model_types.specs.Sessions.{closed, number}
+use Rattle.nob_model_types.specs.Sessions.{closed, number, item_at, acted}
 use Rattle.nob_model_history.specs.Histories.{history_of}
 use Rattle.nob_model_history.specs.Transit.{sent}
 use Rattle.nob_model_history.proofs.Numbered.{items_sent_in}
+use Rattle.nob_model_history.proofs.Sessions.{opens, number_kept}
 use Rattle.nob_model.specs.Lists.{IsRightDeed, AreRightDeeds}
-use Rattle.nob_model_journal.specs.Journals.{deeds_at, number_at, sent_in, acted_during, acted_in}
+use Rattle.nob_model.proofs.Reopening.{open_number}
+use Rattle.nob_model_journal.specs.Journals.{deeds_at, number_at, sent_in, acted_during, acted_in, acted_from}
 use Rattle.nob_model_journal.specs.Runs.{WorldRun}
 use Rattle.nob_model_invariant.proofs.Entries.{grows, right_deeds_at}
+use Rattle.nob_model_invariant.proofs.Opened.{never, opens_above}
 use Rattle.nob_model_invariant.proofs.BySession.{sent_stays, acted_stays}
 
 -- ---- the number of a session, by one deed more
@@ -24,9 +27,18 @@ use Rattle.nob_model_invariant.proofs.BySession.{sent_stays, acted_stays}
 abbrev pub GoesOn : ℕ → (before after : List Deed) → Type 0
 GoesOn p before after = ((number p after ≡ number p before) × (closed p before ≡ true → closed p after ≡ true)) ⊎ (number p before < number p after)
 
+-- but for an Open what was closed stays closed
+pub closed_kept : (p : ℕ) (deed : Deed) (D : List Deed) → opens p deed ≡ false → closed p D ≡ true → closed p (deed ∷ D) ≡ true
+closed_kept p (did.Open q k) D other shut = ap (λ (b : Bool). cond b false (closed p D)) other ∙ shut
+closed_kept p (did.Closing q reason cause) D other shut = or_right (q == p) (closed p D) shut
+closed_kept p deed D other shut = shut
+
 deed_goes_on : (s n p : ℕ) (limits : Limits) (deed : Deed) (D : List Deed) → IsRightDeed s n limits deed D → GoesOn p D (deed ∷ D)
-deed_goes_on s n p limits (did.Closing q reason cause) D right = inl (refl, λ shut. or_right (q == p) (closed p D) shut)
-deed_goes_on s n p limits deed D right = inl (refl, λ shut. shut)
+deed_goes_on s n p limits deed D right = by (opens p deed) refl
+  where
+    by : (b : Bool) → opens p deed ≡ b → GoesOn p D (deed ∷ D)
+    by true own = inr (opens_above s n p limits deed D right own)
+    by false other = inl (number_kept p deed D other, closed_kept p deed D other)
 
 -- so goes on each space of a run
 pub goes_on : (n a b : ℕ) (limits : ℕ → Limits) (entry : Entry) (J : List Entry) → WorldRun n limits (entry ∷ J) → GoesOn b (deeds_at a J) (deeds_at a (entry ∷ J))
@@ -82,6 +94,36 @@ none_acted_above s n p k limits (deed ∷ D) right above =
 opens_acting : (p k : ℕ) (deed : Deed) (D : List Deed) → number p D < number p (deed ∷ D) → acted_during p k (deed ∷ D) ≡ acted_during p k D
 opens_acting p k (did.Act q j) D above = absurd (omega (arith, above))
 opens_acting p k deed D above = refl
+
+-- what was acted on is what was acted on in the present session
+pub acted_is : (s n p : ℕ) (limits : Limits) (D : List Deed) → AreRightDeeds s n limits D → acted p D ≡ acted_during p (number p D) D
+acted_is s n p limits [] right = refl
+acted_is s n p limits (did.Act q j ∷ D) right =
+    ap (λ pairs. cond (q == p) (pairs ++ (j, item_at p j D) ∷ []) pairs) (acted_is s n p limits D right.1)
+    ∙ by (q == p) (number p D == number p D) (eq-eqb (number p D) (number p D) refl)
+  where
+    by : (own now : Bool) → now ≡ true → cond own (acted_during p (number p D) D ++ (j, item_at p j D) ∷ []) (acted_during p (number p D) D) ≡ cond (own && now) (acted_during p (number p D) D ++ (j, item_at p j D) ∷ []) (acted_during p (number p D) D)
+    by true true is = refl
+    by true false is = cc
+    by false now is = refl
+acted_is s n p limits (did.Open q k ∷ D) right = by (q == p) refl (acted_is s n p limits D right.1)
+  where
+    by : (own : Bool) → (q == p) ≡ own → acted p D ≡ acted_during p (number p D) D → cond own [] (acted p D) ≡ acted_during p (cond own k (number p D)) D
+    by true own before =
+        let above : number p D < k = subst (λ (r : ℕ). number r D < k) (eqb-true q p own) (open_number s n limits q k D right.0) in
+        sym (none_acted_above s n p k limits D right.1 above)
+    by false other before = before
+acted_is s n p limits (_ ∷ D) right = acted_is s n p limits D right.1
+
+pub acted_from_is : (n a b : ℕ) (limits : ℕ → Limits) (J : List Entry) → WorldRun n limits J → acted_from a b J ≡ acted_in a b (number_at b a J) J
+acted_from_is n a b limits J run = acted_is b n a (limits b) (deeds_at b J) (right_deeds_at n limits J run b)
+
+-- ---- what begins anew by an Open
+
+-- nothing was acted on
+pub acted_anew : (p : ℕ) (deed : Deed) (D : List Deed) → opens p deed ≡ true → acted p (deed ∷ D) ≡ []
+acted_anew p (did.Open q k) D own = ap (λ (b : Bool). cond b [] (acted p D)) own
+acted_anew p deed D own = absurd (never own)
 
 -- so nothing was acted on in a session that an entry opens
 pub none_acted_new : (n a b : ℕ) (limits : ℕ → Limits) (entry : Entry) (J : List Entry) → WorldRun n limits (entry ∷ J) → number_at b a J < number_at b a (entry ∷ J) → acted_in a b (number_at b a (entry ∷ J)) (entry ∷ J) ≡ []

@@ -88,6 +88,7 @@ comes_by (events.Arrive frame) (answers.Closed reason) J deed from e = subst (Co
 comes_by (events.Tick p) answers.Done J deed from e = subst (ComesFrom (transmitted_frames J)) (some_same (did.Tick p) deed e) tt
 comes_by (events.Tick p) (answers.Closed reason) J deed from e = subst (ComesFrom (transmitted_frames J)) (some_same (did.Closing p reason causes.Ticks) deed e) tt
 comes_by (events.Close p) (answers.Closed reason) J deed from e = subst (ComesFrom (transmitted_frames J)) (some_same (did.Closing p reason causes.Asked) deed e) tt
+comes_by (events.Open p) (answers.Opened k) J deed from e = subst (ComesFrom (transmitted_frames J)) (some_same (did.Open p k) deed e) tt
 comes_by _ _ J deed from e = absurd (none_some deed e)
 
 comes_if : (event : Event) (result : Result Answer Refusal) (J : List Entry) (deed : Deed) → ArrivesGiven event J → deed_by event result ≡ Some deed → ComesFrom (transmitted_frames J) deed

@@ -20,7 +20,7 @@ use Rattle.nob_model_types.specs.declared.turns.OwnerAnswer.{OwnerAnswer}
 use Rattle.nob_model_types.specs.declared.turns.OwnerAnswer.TheVariants as said
 use Rattle.nob_model_types.specs.Sessions.{closed, number, item_at}
 use Rattle.nob_model_types.specs.Objects.{is_live}
-use Rattle.nob_model_types.specs.Turns.{turns, is_own, is_granted, is_pending, is_refused, is_no, with_clean, carries}
+use Rattle.nob_model_types.specs.Turns.{no_turns, turns, is_own, is_granted, is_pending, is_refused, is_no, with_clean, carries}
 use Rattle.nob_model_types.specs.Messages.{is_of}
 use Rattle.nob_model_work.specs.Work.{work}
 use Rattle.nob_model_history.specs.declared.transit.SentItem.{SentItem}
@@ -43,8 +43,7 @@ use Rattle.nob_model_invariant.specs.Asking.{answer_in, answers_among, items_amo
 use Rattle.nob_model_invariant.specs.Settles.{settle_in, settles_among, is_in}
 use Rattle.nob_model_invariant.specs.Typed.{AreOfTypes}
 use Rattle.nob_model_invariant.proofs.Bundles.{settled_in}
-use Rattle.nob_model_invariant.proofs.BySession.{acted_from_is}
-use Rattle.nob_model_invariant.proofs.EachSession.{GoesOn, goes_on}
+use Rattle.nob_model_invariant.proofs.EachSession.{GoesOn, goes_on, acted_from_is}
 use Rattle.nob_model_invariant.proofs.Numbers.{IsCome, owners_reached, deed_come, copies_come}
 use Rattle.nob_model_invariant.proofs.Entries.{grows, grows_own, right_deeds_at}
 use Rattle.nob_model_holdings.proofs.Holdings.{pins_stand}
@@ -278,7 +277,7 @@ new_excused n p b k limits J rep item run typed right is refused carried =
     let there : slice_get (with_numbers 1 (sent_to n p b J)) (k - 1) ≡ Some (k, Some item) =
     ap (slice_get (with_numbers 1 (sent_to n p b J))) place ∙ numbered_at 1 (sent_to n p b J) t next.item next.was_sent ∙ ap (λ (m : ℕ). Some (m, Some next.item)) (let one : 1 + t ≡ k = omega (arith, number) in one) ∙ ap (λ (i : Item). Some (k, Some i)) same in
     unsettled_excused n b limits J rep (new_source p k (deeds_at b J)) item run typed (refused_denied n limits J run typed b rep refused) there carried
-    (above_none t k (settles_among (sent_now n b p J)) (subst (λ pairs. AllByRecursion (λ j. j ≤ length pairs) (settles_among (sent_now n b p J))) (sym (acted_from_is p b J)) ((settlements n limits J run).were_acted p b (number_at b p J))) number)
+    (above_none t k (settles_among (sent_now n b p J)) (subst (λ pairs. AllByRecursion (λ j. j ≤ length pairs) (settles_among (sent_now n b p J))) (sym (acted_from_is n p b limits J run)) ((settlements n limits J run).were_acted p b (number_at b p J))) number)
 
 -- ---- a loss
 
@@ -422,6 +421,14 @@ clean_refused n b limits J rep other before right refused = by (is_same rep othe
 deed_refused : (n b : ℕ) (limits : ℕ → Limits) (J : List Entry) (rep : WireRep) (deed : Deed) → WorldRun n limits J → AreOfTypes J → RefusedExcused n J → AreRightDeeds b n (limits b) (deed ∷ deeds_at b J) → is_refused (turns b n rep (deed ∷ deeds_at b J)) ≡ true → AllByRecursion (λ copy. is_excuse n b rep J copy ≡ true) (sources b n rep (deed ∷ deeds_at b J))
 deed_refused n b limits J rep (did.Act p k) run typed before right refused = act_refused n p b k limits J rep run typed before right refused
 deed_refused n b limits J rep (did.Clean other) run typed before right refused = clean_refused n b limits J rep other before right refused
+deed_refused n b limits J rep (did.Open q k) run typed before right refused = by (q == rep.owner) refused
+  where
+    D : List Deed
+    D = deeds_at b J
+
+    by : (own : Bool) → is_refused (cond own no_turns (turns b n rep D)) ≡ true → AllByRecursion (λ copy. is_excuse n b rep J copy ≡ true) (cond own [] (sources b n rep D))
+    by true is = tt
+    by false is = before b rep is
 deed_refused n b limits J rep deed run typed before right refused = before b rep refused
 
 -- in every run each copy of what was refused is excused

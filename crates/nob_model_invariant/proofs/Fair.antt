@@ -1,9 +1,9 @@
 -- On every list of right deeds the messages of a Call outstanding and the Replies to it are, in the present session, together no
 -- more than the times that it was acted on.
 use Rattle.std.proofs.Common.{◌≡◌, ℕ, ◌+◌, ◌≤◌, ◌&&◌, not, Bool, true, false, cond, List, [], ◌∷◌, ◌++◌, map, filter, find, Option, Some, None, if◌then◌else◌, refl, sym, ap, subst, ◌∙◌, arith}
-use Rattle.std.specs.Prelude.{⊤, ◌==◌}
+use Rattle.std.specs.Prelude.{⊤, ◌==◌, ◌<◌}
 use Rattle.std.specs.List.{cons_option}
-use Rattle.std.proofs.lemmas.Bool.{eqb-true, eq-eqb, and_parts}
+use Rattle.std.proofs.lemmas.Bool.{eqb-true, eq-eqb, ne_eqb, and_parts, both_ways}
 use Rattle.std.proofs.lemmas.List.Elements.{filter_map-append}
 use Rattle.nob_ids.specs.declared.limits.Limits.{Limits}
 use Rattle.nob_item.specs.Kinds.{is_note}
@@ -27,11 +27,12 @@ use Rattle.nob_model_history.specs.Histories.{history_of}
 use Rattle.nob_model_history.specs.Ends.{items_to}
 use Rattle.nob_model_history.specs.Transit.{sent}
 use Rattle.nob_model_history.proofs.Numbered.{items_sent_in}
+use Rattle.nob_model_history.proofs.Sessions.{opens, number_kept}
 use Rattle.nob_model.specs.Right.{right_after}
 use Rattle.nob_model.specs.Lists.{AreRightDeeds}
 use Rattle.nob_model.proofs.Doing.{was_answered}
 use Rattle.nob_model.proofs.Accepted.{found_passes, finish_tells}
-use Rattle.nob_model.proofs.Carrying.{all_found}
+use Rattle.nob_model.proofs.Carrying.{AllOutstanding, all_found}
 use Rattle.nob_model.proofs.Waiting.{all_weaker}
 use Rattle.nob_model_invariant.specs.Asking.{items_among}
 use Rattle.nob_model_invariant.specs.Counting.{count_of, makes_call, brings_call, runs_call, calls_outstanding}
@@ -39,7 +40,9 @@ use Rattle.nob_model_invariant.proofs.Counts.{one_if, count_first, count_append,
 use Rattle.nob_model_holdings.proofs.Lists.{some_same}
 use Rattle.nob_model_invariant.proofs.Notes.{may_speak, gives_notes}
 use Rattle.nob_model_invariant.proofs.BySession.{sent_now_more}
-use Rattle.nob_model_invariant.proofs.Coming.{waiting_present}
+use Rattle.nob_model_invariant.proofs.Opened.{opens_above}
+use Rattle.nob_model_invariant.proofs.Anew.{none_sent_new}
+use Rattle.nob_model_invariant.proofs.Coming.{IsReached, waiting_present, all_reached}
 
 -- ---- gifts
 
@@ -253,12 +256,13 @@ module _ (p session k : ℕ) where
       omega (arith, waiting, ready, running)
 
   -- what was acted on, by one deed more
-  pub taken_more : (deed : Deed) (D : List Deed) → count_of (makes_call k) (items_among (acted p (deed ∷ D))) ≡ count_of (makes_call k) (items_among (acted p D)) + takes_call deed D
-  taken_more (did.Act q j) D = elim (q == p) as (λ b. count_of (makes_call k) (items_among (cond b (acted p D ++ (j, item_at p j D) ∷ []) (acted p D))) ≡ count_of (makes_call k) (items_among (acted p D)) + cond b (count_of (makes_call k) (cons_option (item_at p j D) [])) 0) [
+  pub taken_more : (deed : Deed) (D : List Deed) → opens p deed ≡ false → count_of (makes_call k) (items_among (acted p (deed ∷ D))) ≡ count_of (makes_call k) (items_among (acted p D)) + takes_call deed D
+  taken_more (did.Act q j) D kept = elim (q == p) as (λ b. count_of (makes_call k) (items_among (cond b (acted p D ++ (j, item_at p j D) ∷ []) (acted p D))) ≡ count_of (makes_call k) (items_among (acted p D)) + cond b (count_of (makes_call k) (cons_option (item_at p j D) [])) 0) [
     | true ↦ ap (count_of (makes_call k)) (filter_map-append (λ (pair : ℕ × Option Item). pair.1) (acted p D) ((j, item_at p j D) ∷ [])) ∙ count_append (makes_call k) (items_among (acted p D)) (cons_option (item_at p j D) [])
     | false ↦ omega arith
   ]
-  taken_more deed D = omega arith
+  taken_more (did.Open q j) D kept = let same : count_of (makes_call k) (items_among (cond (q == p) [] (acted p D))) ≡ count_of (makes_call k) (items_among (acted p D)) = ap (λ (b : Bool). count_of (makes_call k) (items_among (cond b [] (acted p D)))) kept in omega (arith, same)
+  taken_more deed D kept = omega arith
 
 -- ---- on a list of right deeds
 
@@ -272,27 +276,57 @@ answers_present p k s n limits (did.Finish job outcome) D right = λ run found f
 answers_present p k s n limits (did.Settle q j) D right = λ m found same.
     let W : Outstanding = work s n D in
     let from : m.from ≡ q = eqb-true m.from q (and_parts (m.from == q) (m.number == j) (found_passes (is_of q j) W.waiting m found)).0 in
-    all_found (λ (one : Message). one.session ≡ number one.from D) (is_of q j) W.waiting m found (waiting_present s n D) ∙ ap (λ (r : ℕ). number r D) (from ∙ same)
+    all_found (λ (one : Message). one.session ≡ number one.from D) (is_of q j) W.waiting m found (waiting_present s n limits D right.1) ∙ ap (λ (r : ℕ). number r D) (from ∙ same)
 answers_present p k s n limits deed D right = tt
 
 -- the messages of Call k from p outstanding that came in the present session and the Replies to it in that are no more than the times that it was acted on there
 abbrev pub AreFair : (p k s n : ℕ) → List Deed → Type 0
 AreFair p k s n D = calls_outstanding p (number p D) k (work s n D) + count_of (replies_to k) (items_sent_in p (number p D) (sent (history_of s n D))) ≤ count_of (makes_call k) (items_among (acted p D))
 
--- by a deed that leaves the number of the session
-fair_more : (p k s n : ℕ) (limits : Limits) (deed : Deed) (D : List Deed) → number p (deed ∷ D) ≡ number p D → AreRightDeeds s n limits (deed ∷ D) → AreFair p k s n D → AreFair p k s n (deed ∷ D)
+-- by a deed that doesn't open the session anew
+fair_more : (p k s n : ℕ) (limits : Limits) (deed : Deed) (D : List Deed) → opens p deed ≡ false → AreRightDeeds s n limits (deed ∷ D) → AreFair p k s n D → AreFair p k s n (deed ∷ D)
 unfolding gifts
-fair_more p k s n limits deed D same right before =
+fair_more p k s n limits deed D kept right before =
     let W : Outstanding = work s n D in
     let loans = loans_fair p (number p D) k s n (deed ∷ D) (work_after s n deed D W) in
     let fair = deed_fair p (number p D) k s n deed D W (answers_present p k s n limits deed D right) in
-    let acted_on = taken_more p (number p D) k deed D in
+    let acted_on = taken_more p (number p D) k deed D kept in
     let given = count_given (replies_to k) p (λ (gift : Gift). is_peer s n gift.to) (gifts_of s n deed D W) in
     let whole = ap (count_of (replies_to k)) (sent_now_more s n p deed D) ∙ count_append (replies_to k) (items_sent_in p (number p D) (sent (history_of s n D))) (items_to p (gifts s n deed D W)) in
-    subst (λ (m : ℕ). calls_outstanding p m k (work s n (deed ∷ D)) + count_of (replies_to k) (items_sent_in p m (sent (history_of s n (deed ∷ D)))) ≤ count_of (makes_call k) (items_among (acted p (deed ∷ D)))) (sym same)
+    subst (λ (m : ℕ). calls_outstanding p m k (work s n (deed ∷ D)) + count_of (replies_to k) (items_sent_in p m (sent (history_of s n (deed ∷ D)))) ≤ count_of (makes_call k) (items_among (acted p (deed ∷ D)))) (sym (number_kept p deed D kept))
     (omega (arith, before, loans, fair, acted_on, given, whole))
+
+neither : (a b c : Bool) → (a ≡ true → b ≡ false) → (a && b && c) ≡ false
+neither true true c other = absurd (both_ways true (other refl) refl)
+neither true false c other = refl
+neither false b c other = refl
+
+module _ (p session k : ℕ) (D : List Deed) (above : number p D < session) where
+  -- what came in a session before isn't of one above
+  not_brought : (m : Message) → IsReached D m → brings_call p session k m ≡ false
+  not_brought m low = neither (m.from == p) (m.session == session) (makes_call k m.item) (λ own. ne_eqb m.session session (λ same. let most = subst (λ (r : ℕ). m.session ≤ number r D) (eqb-true m.from p own) low in omega (arith, above, same, most)))
+
+  none_outstanding : (W : Outstanding) → AllOutstanding (IsReached D) W → calls_outstanding p session k W ≡ 0
+  none_outstanding W all =
+      let waiting = count_none (brings_call p session k) W.waiting (all_weaker (IsReached D) (λ m. brings_call p session k m ≡ false) not_brought W.waiting all.waiting) in
+      let ready = count_none (brings_call p session k) W.ready (all_weaker (IsReached D) (λ m. brings_call p session k m ≡ false) not_brought W.ready all.ready) in
+      let running = count_none (runs_call p session k) W.running (all_weaker (λ (run : Run). IsReached D run.message) (λ run. runs_call p session k run ≡ false) (λ run. not_brought run.message) W.running all.running) in
+      omega (arith, waiting, ready, running)
+
+-- in a session that is opened anew nothing is outstanding, and nothing was sent
+open_fair : (p k s n : ℕ) (limits : Limits) (q j : ℕ) (D : List Deed) → AreRightDeeds s n limits (did.Open q j ∷ D) → AreFair p k s n D → (b : Bool) → (q == p) ≡ b → AreFair p k s n (did.Open q j ∷ D)
+unfolding work_after
+open_fair p k s n limits q j D right before true own =
+    let E : List Deed = did.Open q j ∷ D in
+    let above : number p D < number p E = opens_above s n p limits (did.Open q j) D right.0 own in
+    let loans = loans_fair p (number p E) k s n E (work s n D) in
+    let few = none_outstanding p (number p E) k D above (work s n D) (all_reached s n limits D right.1) in
+    let none = ap (count_of (replies_to k)) (none_sent_new s n p limits (did.Open q j) D right above) in
+    omega (arith, loans, few, none)
+open_fair p k s n limits q j D right before false other = fair_more p k s n limits (did.Open q j) D other right before
 
 -- in every list of right deeds they are
 pub calls_fair : (p k s n : ℕ) (limits : Limits) (D : List Deed) → AreRightDeeds s n limits D → AreFair p k s n D
 calls_fair p k s n limits [] right = omega arith
+calls_fair p k s n limits (did.Open q j ∷ D) right = open_fair p k s n limits q j D right (calls_fair p k s n limits D right.1) (q == p) refl
 calls_fair p k s n limits (deed ∷ D) right = fair_more p k s n limits deed D refl right (calls_fair p k s n limits D right.1)

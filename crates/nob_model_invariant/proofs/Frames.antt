@@ -88,6 +88,7 @@ own_given p (did.Transmit q frames) calls frame from = transmit_given (q == p) f
 own_given p (did.Arrive other count) calls frame from = subst (λ frames. Contains frames frame) (sym (if_given (other.from == p) _ calls refl)) from
 own_given p (did.Tick q) calls frame from = subst (λ frames. Contains frames frame) (sym (if_given (q == p) _ calls refl)) from
 own_given p (did.Closing q reason cause) calls frame from = subst (λ frames. Contains frames frame) (sym (if_given (q == p) _ calls (closing_given p reason cause calls))) from
+own_given p (did.Open q k) calls frame from = subst (λ frames. Contains frames frame) (sym (if_given (q == p) _ calls refl)) from
 own_given p deed calls frame from = from
 
 -- what was given on an end stays given

@@ -21,7 +21,7 @@ use Rattle.nob_model_types.specs.declared.entry.Entry.{Entry}
 use Rattle.nob_model_types.specs.declared.deed.Deed.{Deed}
 use Rattle.nob_model_types.specs.declared.deed.Deed.TheVariants as did
 use Rattle.nob_model_types.specs.declared.message.Message.{Message}
-use Rattle.nob_model_types.specs.Sessions.{is_peer, item_at, acted}
+use Rattle.nob_model_types.specs.Sessions.{is_peer, number, item_at, acted}
 use Rattle.nob_model_types.specs.Turns.{turns, is_granted, carries}
 use Rattle.nob_model_types.specs.Messages.{is_of, is_lost_message}
 use Rattle.nob_model_work.specs.declared.gifts.Gift.{Gift}
@@ -50,8 +50,9 @@ use Rattle.nob_model_invariant.specs.Asking.{ask_in, asks_among, items_among, di
 use Rattle.nob_model_holdings.proofs.Lists.{all_map, all_both, all_pass, place_in_whole, some_same}
 use Rattle.nob_model_holdings.proofs.Typing.{next_none, refs_held}
 use Rattle.nob_model_invariant.proofs.Entries.{grows, right_deeds_at}
-use Rattle.nob_model_invariant.proofs.BySession.{sent_in_more, sent_in_same, sent_grows, sent_one, acted_from_is}
-use Rattle.nob_model_invariant.proofs.EachSession.{GoesOn, goes_on, rises, none_acted_new, sent_apart}
+use Rattle.nob_model_invariant.proofs.BySession.{sent_in_more, sent_in_same, sent_grows, sent_one}
+use Rattle.nob_model_invariant.proofs.EachSession.{GoesOn, goes_on, rises, acted_from_is, none_acted_new, sent_apart}
+use Rattle.nob_model_invariant.proofs.Opened.{opens_above}
 use Rattle.nob_model_invariant.proofs.Order.{ActsNow, IsNextOf, acts_on_next, all_fit, in_order_now}
 use Rattle.nob_model_holdings.proofs.Granted.{is_owned, held_owned}
 use Rattle.nob_model_holdings.proofs.Holdings.{holds_owned}
@@ -348,15 +349,20 @@ module _ (n c o x : ℕ) (limits : ℕ → Limits) (J : List Entry) (run : World
   act_left q k true same right before = next_left q k right (eqb-true q c same) before
   act_left q k false other right before = before
 
-  deed_left : (deed : Deed) → IsRightDeed o n (limits o) deed (deeds_at o J) → Left (deeds_at o J) → Left (deed ∷ deeds_at o J)
-  deed_left (did.Act q k) right before = act_left q k (q == c) refl right before
-  deed_left deed right before = before
+  deed_left : (deed : Deed) → IsRightDeed o n (limits o) deed (deeds_at o J) → number c (deed ∷ deeds_at o J) ≡ number c (deeds_at o J) → Left (deeds_at o J) → Left (deed ∷ deeds_at o J)
+  deed_left (did.Act q k) right stays before = act_left q k (q == c) refl right before
+  deed_left (did.Open q k) right stays before = by (q == c) refl
+    where
+      by : (own : Bool) → (q == c) ≡ own → AreGuarded o x (cond own false (is_entered o x c (deeds_at o J))) (drop (length (cond own [] (acted_from c o J))) whole)
+      by true own = absurd (let above = opens_above o n c (limits o) (did.Open q k) (deeds_at o J) right own in omega (arith, above, stays))
+      by false other = before
+  deed_left deed right stays before = before
 
-  entry_left : (entry : Entry) → WorldRun n limits (entry ∷ J) → Left (deeds_at o J) → Left (deeds_at o (entry ∷ J))
-  entry_left entry all before =
+  entry_left : (entry : Entry) → WorldRun n limits (entry ∷ J) → number_at o c (entry ∷ J) ≡ number_at o c J → Left (deeds_at o J) → Left (deeds_at o (entry ∷ J))
+  entry_left entry all stays before =
       elim (grows o entry J) [
         | inl same ↦ subst Left (sym same) before
-        | inr one ↦ subst Left (sym one.3) (deed_left one.0 (subst (AreRightDeeds o n (limits o)) one.3 (right_deeds_at n limits (entry ∷ J) all o)).0 before)
+        | inr one ↦ subst Left (sym one.3) (deed_left one.0 (subst (AreRightDeeds o n (limits o)) one.3 (right_deeds_at n limits (entry ∷ J) all o)).0 (ap (number c) (sym one.3) ∙ stays) before)
       ]
 
 -- ---- sessions to which the owner hasn't come
@@ -401,7 +407,7 @@ guarded_stays : (n c o x : ℕ) (limits : ℕ → Limits) → c ≢ o → (entry
 guarded_stays n c o x limits apart entry J run typed same before =
     let longer = sent_grows n c o (number_at o c J) entry J in
     subst (λ (k : ℕ). AreGuarded o x (is_entered o x c (deeds_at o (entry ∷ J))) (drop (length (acted_from c o (entry ∷ J))) (sent_in n c o k (entry ∷ J)))) (sym same)
-    (entry_left n c o x limits J run.1 typed.1 longer.0 (sent_in n c o (number_at o c J) (entry ∷ J)) (sym longer.1) entry run
+    (entry_left n c o x limits J run.1 typed.1 longer.0 (sent_in n c o (number_at o c J) (entry ∷ J)) (sym longer.1) entry run same
     (entry_sends n c o x limits apart entry J run typed before))
 
 -- and where it opens one
@@ -409,7 +415,7 @@ guarded_opens : (n c o x : ℕ) (limits : ℕ → Limits) → c ≢ o → (entry
 guarded_opens n c o x limits apart entry J run typed above =
     let k : ℕ = number_at o c (entry ∷ J) in
     let entered : Bool = is_entered o x c (deeds_at o (entry ∷ J)) in
-    let none : acted_from c o (entry ∷ J) ≡ [] = acted_from_is c o (entry ∷ J) ∙ none_acted_new n c o limits entry J run above in
+    let none : acted_from c o (entry ∷ J) ≡ [] = acted_from_is n c o limits (entry ∷ J) run ∙ none_acted_new n c o limits entry J run above in
     let same = sent_apart n c o limits entry J apart above k in
     subst (λ pairs. AreGuarded o x entered (drop (length pairs) (sent_in n c o k (entry ∷ J)))) (sym none)
     (guarded_weaker o x false entered (sent_in n c o k (entry ∷ J)) (λ is. absurd (let clash : false ≡ true = is in cc))

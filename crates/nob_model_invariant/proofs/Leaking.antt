@@ -227,6 +227,11 @@ in_settled p k (did.Act q j ∷ D) is = by (in_settled p k D) (q == p) refl is
     by : (is_in k (settles_among (items_among (acted p D))) ≡ true → is_settled p k D ≡ true) → (own : Bool) → (q == p) ≡ own → is_in k (settles_among (items_among (cond own (acted p D ++ (j, item_at p j D) ∷ []) (acted p D)))) ≡ true → (((q == p) && is_settle_of k (item_at q j D)) || is_settled p k D) ≡ true
     by others true own is = either others own (or_cases _ _ (sym (settles_push k (acted p D) j (item_at p j D)) ∙ is))
     by others false own is = or_right _ _ (others is)
+in_settled p k (did.Open q j ∷ D) is = by (in_settled p k D) (q == p) is
+  where
+    by : (is_in k (settles_among (items_among (acted p D))) ≡ true → is_settled p k D ≡ true) → (own : Bool) → is_in k (settles_among (items_among (cond own [] (acted p D)))) ≡ true → cond own false (is_settled p k D) ≡ true
+    by before true there = cc
+    by before false there = before there
 in_settled p k (deed ∷ D) is = in_settled p k D is
 
 waits_or : (k : ℕ) (a : ℕ) (ms : List Message) (other : Bool) → ms ≡ [] → (is_waiting a k ms || other) ≡ true → other ≡ true
@@ -274,6 +279,11 @@ acted_strangers s n limits p (did.Act q k ∷ D) right stranger = by (acted_stra
     by : acted p D ≡ [] → (own : Bool) → (q == p) ≡ own → cond own (acted p D ++ (k, item_at p k D) ∷ []) (acted p D) ≡ []
     by none true own = absurd (both_ways (is_peer s n p) stranger (subst (λ (r : ℕ). is_peer s n r ≡ true) (eqb-true q p own) (act_peer s n limits q k D right.0)))
     by none false own = none
+acted_strangers s n limits p (did.Open q k ∷ D) right stranger = by (q == p) (acted_strangers s n limits p D right.1 stranger)
+  where
+    by : (own : Bool) → acted p D ≡ [] → cond own [] (acted p D) ≡ []
+    by true none = refl
+    by false none = none
 acted_strangers s n limits p (deed ∷ D) right stranger = acted_strangers s n limits p D right.1 stranger
 
 -- whoever asked is a peer
@@ -352,7 +362,7 @@ own_held false own rest is none = refl
 
 -- in every run of a world no object leaks
 pub leaks : LeaksLaw
-leaks n limits J run quiet o x alive unused =
+leaks n limits J run opens quiet o x alive unused =
     let range = owner_range n limits J run o x alive in
     free_withdrawn o x (history_at o n J) (live_counted n limits J run o x alive) alive
     (own_held (is_held o (own_ref o x) (history_at o n J)) (is_own o (own_ref o x)) (both_open o o J) (eq-eqb o o refl) (unused o range.0 range.1))

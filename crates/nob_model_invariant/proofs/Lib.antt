@@ -23,7 +23,9 @@ pub mod Reading
 pub mod Giving
 pub mod Entries
 pub mod BySession
+pub mod Opened
 pub mod EachSession
+pub mod Anew
 pub mod Coming
 pub mod Frames
 pub mod Pairs

@@ -227,6 +227,7 @@ module _ (n p b k : ℕ) (limits : ℕ → Limits) (J : List Entry) (run : World
 pub deed_come : (n b : ℕ) (limits : ℕ → Limits) (J : List Entry) (rep : WireRep) (deed : Deed) → WorldRun n limits J → AreOfTypes J → AreRightDeeds b n (limits b) (deed ∷ deeds_at b J) → AllByRecursion (IsCome n b J) (sources b n rep (deeds_at b J)) → AllByRecursion (IsCome n b J) (sources b n rep (deed ∷ deeds_at b J))
 deed_come n b limits J rep (did.Act p k) run typed right before = more_rest (IsCome n b J) (is_carried rep (item_at p k (deeds_at b J))) (new_source p k (deeds_at b J)) (sources b n rep (deeds_at b J)) (λ carried. new_come n p b k limits J run typed right) before
 deed_come n b limits J rep (did.Clean other) run typed right before = cleaned (IsCome n b J) (is_same rep other && (turns b n rep (deeds_at b J)).asks) (sources b n rep (deeds_at b J)) before
+deed_come n b limits J rep (did.Open q k) run typed right before = elim (q == rep.owner) as (λ (own : Bool). AllByRecursion (IsCome n b J) (cond own [] (sources b n rep (deeds_at b J)))) [ true ↦ tt | false ↦ before ]
 deed_come n b limits J rep deed run typed right before = before
 
 sent_later : (n a : ℕ) (test : SentItem → Bool) (entry : Entry) (J : List Entry) → list_any test (sent (history_at a n J)) ≡ true → list_any test (sent (history_at a n (entry ∷ J))) ≡ true

@@ -24,6 +24,7 @@ use Rattle.nob_model_types.specs.Sessions.{is_peer, item_at, item_spelt}
 use Rattle.nob_model_history.specs.declared.transit.SentItem.{SentItem}
 use Rattle.nob_model_history.specs.Ends.{payload_of, calls_at}
 use Rattle.nob_model_history.specs.Transit.{is_sent_to, sent}
+use Rattle.nob_model_history.specs.Premises.{NumbersRise}
 use Rattle.nob_model_history.proofs.Sessions.{number_is}
 use Rattle.nob_model_history.proofs.Inbox.{acted_takes, front_number}
 use Rattle.nob_model_history.proofs.Arriving.{payload_is, front_payload}
@@ -34,6 +35,7 @@ use Rattle.nob_model.proofs.Doing.{was_answered}
 use Rattle.nob_model.proofs.Accepted.{act_tells}
 use Rattle.nob_model.proofs.Premises.{in_turn, front_item}
 use Rattle.nob_model.proofs.Calling.{calls_law}
+use Rattle.nob_model.proofs.Reopening.{numbers_rise}
 use Rattle.nob_model.proofs.Carrying.{all_filter}
 use Rattle.nob_model_journal.specs.Journals.{deeds_at, history_at, number_at, sent_in, sent_to, acted_during, acted_in, acted_from}
 use Rattle.nob_model_journal.specs.Runs.{WorldRun}
@@ -45,7 +47,8 @@ use Rattle.nob_model_invariant.proofs.Numbered.{numbered-append, numbered_at}
 use Rattle.nob_model_invariant.proofs.Reading.{payload_back}
 use Rattle.nob_model_invariant.proofs.Giving.{SentFits, ActsOnWhole, AllFit, fits_more, fits_none}
 use Rattle.nob_model_invariant.proofs.Entries.{grows, right_deeds_at}
-use Rattle.nob_model_invariant.proofs.BySession.{sent_grows, handed_in, acted_from_is}
+use Rattle.nob_model_invariant.proofs.BySession.{sent_grows, handed_in}
+use Rattle.nob_model_invariant.proofs.EachSession.{acted_from_is}
 use Rattle.nob_model_invariant.proofs.Pairs.{are_paired}
 use Rattle.nob_model_invariant.proofs.Carried.{frames_carried}
 
@@ -89,10 +92,14 @@ right_up_to : (s p k : ℕ) (limits : Limits) (calls : List EndEntry) → AreRig
 right_up_to s p k limits [] right = tt
 right_up_to s p k limits (call ∷ calls) right = elim (end.number (call ∷ calls) == k) as (λ b. AreRightCalls s p limits (cond b (call ∷ calls) (up_to k calls))) [ true ↦ right | false ↦ right_up_to s p k limits calls right.1 ]
 
+-- the numbers of each space's sessions rise
+rise_at : (s n : ℕ) (limits : ℕ → Limits) (J : List Entry) → WorldRun n limits J → NumbersRise (deeds_at s J)
+rise_at s n limits J run = numbers_rise s n (limits s) (deeds_at s J) (right_deeds_at n limits J run s)
+
 -- a space sends another no more items in a session than there are numbers
 sent_few : (a b n k : ℕ) (limits : ℕ → Limits) (J : List Entry) → WorldRun n limits J → length (sent_in n a b k J) ≤ last_item
 sent_few a b n k limits J run =
-    subst (λ (m : ℕ). m ≤ last_item) (ap length (handed_in a n b k (deeds_at a J)) ∙ length-map (sent_in n a b k J) payload_of)
+    subst (λ (m : ℕ). m ≤ last_item) (ap length (handed_in a n b k (deeds_at a J) (rise_at a n limits J run)) ∙ length-map (sent_in n a b k J) payload_of)
     (handed_few a b (limits a) (calls_in n a b k J) (right_up_to a b k (limits a) (calls_at b (history_at a n J)) (calls_law a n (limits a) (deeds_at a J) (right_deeds_at n limits J run a) b)))
 
 -- ---- the item that is acted on
@@ -137,7 +144,7 @@ front_is_next a b n k limits payload J run all peer front =
     let next : k ≡ t + 1 = front_number calls k payload front ∙ ap (λ (m : ℕ). m + 1) (sym count) in
     let came = sym (payload_is b n a k D) ∙ front_payload b n a D turn k payload front in
     let there : slice_get (handed (calls_in n a b (number_at b a J) J)) (k - 1) ≡ Some payload = ((reached a b n limits J apart run).kept k payload came).1 in
-    let place : slice_get (map payload_of S) t ≡ Some payload = ap (slice_get (map payload_of S)) (let at : t ≡ k - 1 = omega (arith, next) in at) ∙ ap (λ ps. slice_get ps (k - 1)) (sym (handed_in a n b (number_at b a J) (deeds_at a J))) ∙ there in
+    let place : slice_get (map payload_of S) t ≡ Some payload = ap (slice_get (map payload_of S)) (let at : t ≡ k - 1 = omega (arith, next) in at) ∙ ap (λ ps. slice_get ps (k - 1)) (sym (handed_in a n b (number_at b a J) (deeds_at a J) (rise_at a n limits J run))) ∙ there in
     let before = place_before payload_of S t payload place in
     let fits : Fits before.0 = all_at Fits S t before.0 (sent_fits a b n (number_at b a J) J all) before.1 in
     let low = slice_get_within S t before.0 before.1 in
@@ -198,8 +205,8 @@ sent_longer n a b k entry J pairs begins =
 abbrev pub ActsNow : (n a b : ℕ) → List Entry → Type 0
 ActsNow n a b J = IsBeginning (acted_from a b J) (with_numbers 1 (sent_to n a b J))
 
-now_acted : (n a b : ℕ) (J : List Entry) → ActsInOrder n a b (number_at b a J) J → ActsNow n a b J
-now_acted n a b J begins = subst (λ pairs. IsBeginning pairs (with_numbers 1 (sent_to n a b J))) (sym (acted_from_is a b J)) begins
+now_acted : (n a b : ℕ) (limits : ℕ → Limits) (J : List Entry) → WorldRun n limits J → ActsInOrder n a b (number_at b a J) J → ActsNow n a b J
+now_acted n a b limits J run begins = subst (λ pairs. IsBeginning pairs (with_numbers 1 (sent_to n a b J))) (sym (acted_from_is n a b limits J run)) begins
 
 next_acted : (n a b j : ℕ) (J : List Entry) → IsNextOf n a b j J → ActsNow n a b J → IsBeginning (acted_from a b J ++ (j, item_at a j (deeds_at b J)) ∷ []) (with_numbers 1 (sent_to n a b J))
 next_acted n a b j J next begins =
@@ -209,20 +216,20 @@ next_acted n a b j J next begins =
     (begins_further (acted_from a b J) (with_numbers 1 (sent_to n a b J)) (1 + t, Some next.item) begins (numbered_at 1 (sent_to n a b J) t next.item next.was_sent))
 
 -- item j from a, that b acts on in its session, is the next there
-present_acted : (n a b j : ℕ) (J : List Entry) → IsNextOf n a b j J → ActsInOrder n a b (number_at b a J) J → IsBeginning (acted_in a b (number_at b a J) J ++ (j, item_at a j (deeds_at b J)) ∷ []) (with_numbers 1 (sent_to n a b J))
-present_acted n a b j J next begins = subst (λ pairs. IsBeginning (pairs ++ (j, item_at a j (deeds_at b J)) ∷ []) (with_numbers 1 (sent_to n a b J))) (acted_from_is a b J) (next_acted n a b j J next (now_acted n a b J begins))
+present_acted : (n a b j : ℕ) (limits : ℕ → Limits) (J : List Entry) → WorldRun n limits J → IsNextOf n a b j J → ActsInOrder n a b (number_at b a J) J → IsBeginning (acted_in a b (number_at b a J) J ++ (j, item_at a j (deeds_at b J)) ∷ []) (with_numbers 1 (sent_to n a b J))
+present_acted n a b j limits J run next begins = subst (λ pairs. IsBeginning (pairs ++ (j, item_at a j (deeds_at b J)) ∷ []) (with_numbers 1 (sent_to n a b J))) (acted_from_is n a b limits J run) (next_acted n a b j J next (now_acted n a b limits J run begins))
 
-act_step : (n a b q j k : ℕ) (J : List Entry) (own now : Bool) → (number_at b a J == k) ≡ now → (own ≡ true → IsNextOf n a b j J) → ActsInOrder n a b k J → IsBeginning (cond (own && now) (acted_in a b k J ++ (j, item_at a j (deeds_at b J)) ∷ []) (acted_in a b k J)) (with_numbers 1 (sent_in n a b k J))
-act_step n a b q j k J true true is next begins =
+act_step : (n a b q j k : ℕ) (limits : ℕ → Limits) (J : List Entry) → WorldRun n limits J → (own now : Bool) → (number_at b a J == k) ≡ now → (own ≡ true → IsNextOf n a b j J) → ActsInOrder n a b k J → IsBeginning (cond (own && now) (acted_in a b k J ++ (j, item_at a j (deeds_at b J)) ∷ []) (acted_in a b k J)) (with_numbers 1 (sent_in n a b k J))
+act_step n a b q j k limits J run true true is next begins =
     let same : number_at b a J ≡ k = eqb-true (number_at b a J) k is in
     subst (λ (m : ℕ). IsBeginning (acted_in a b m J ++ (j, item_at a j (deeds_at b J)) ∷ []) (with_numbers 1 (sent_in n a b m J))) same
-    (present_acted n a b j J (next refl) (subst (λ (m : ℕ). ActsInOrder n a b m J) (sym same) begins))
-act_step n a b q j k J true false is next begins = begins
-act_step n a b q j k J false now is next begins = begins
+    (present_acted n a b j limits J run (next refl) (subst (λ (m : ℕ). ActsInOrder n a b m J) (sym same) begins))
+act_step n a b q j k limits J run true false is next begins = begins
+act_step n a b q j k limits J run false now is next begins = begins
 
 deed_step : (n a b k : ℕ) (limits : ℕ → Limits) (deed : Deed) (J : List Entry) → WorldRun n limits J → AllFit a n (deeds_at a J) → IsRightDeed b n (limits b) deed (deeds_at b J) → ActsInOrder n a b k J → IsBeginning (acted_during a k (deed ∷ deeds_at b J)) (with_numbers 1 (sent_in n a b k J))
 deed_step n a b k limits (did.Act q j) J run all right begins =
-    act_step n a b q j k J (q == a) (number_at b a J == k) refl (λ own. acts_on_next a b n j limits J run all (subst (λ (p : ℕ). IsRightDeed b n (limits b) (did.Act p j) (deeds_at b J)) (eqb-true q a own) right)) begins
+    act_step n a b q j k limits J run (q == a) (number_at b a J == k) refl (λ own. acts_on_next a b n j limits J run all (subst (λ (p : ℕ). IsRightDeed b n (limits b) (did.Act p j) (deeds_at b J)) (eqb-true q a own) right)) begins
 deed_step n a b k limits deed J run all right begins = begins
 
 -- what each space acted on from each peer is a beginning of what that sent it, in each session
@@ -240,7 +247,7 @@ in_order n limits (entry ∷ J) run typed a b k =
 
 -- and so it is in the session in which the space is that acts
 pub in_order_now : (n : ℕ) (limits : ℕ → Limits) (J : List Entry) → WorldRun n limits J → AreOfTypes J → (a b : ℕ) → ActsNow n a b J
-in_order_now n limits J run typed a b = now_acted n a b J (in_order n limits J run typed a b (number_at b a J))
+in_order_now n limits J run typed a b = now_acted n a b limits J run (in_order n limits J run typed a b (number_at b a J))
 
 -- ---- the sessions of a run
 
@@ -248,7 +255,7 @@ pub sessions : (n : ℕ) (limits : ℕ → Limits) (J : List Entry) → WorldRun
 sessions n limits J run typed = record {
   items_spelt = λ a b k. sent_fits a b n k J (all_fit n limits J run typed a);
   reached = λ a b apart. reached a b n limits J apart run;
-  accepted_in_order = λ a b apart. let front = (reached a b n limits J apart run).front in (front.0, front.1 ∙ handed_in a n b (number_at b a J) (deeds_at a J));
+  accepted_in_order = λ a b apart. let front = (reached a b n limits J apart run).front in (front.0, front.1 ∙ handed_in a n b (number_at b a J) (deeds_at a J) (rise_at a n limits J run));
   acted_in_order = in_order n limits J run typed;
   frames_carry = frames_carried n limits J run;
 }

@@ -29,6 +29,7 @@ use Rattle.nob_model_history.specs.Histories.{history_of}
 use Rattle.nob_model_history.specs.Ends.{items_to}
 use Rattle.nob_model_history.specs.Transit.{sent}
 use Rattle.nob_model_history.specs.Listing.{is_entered, is_entered_after}
+use Rattle.nob_model_history.proofs.Sessions.{number_kept}
 use Rattle.nob_model_history.proofs.Numbered.{items_sent_in, gifts_sent_now}
 use Rattle.nob_model_acting.specs.Acting.{fault_of, is_unknown}
 use Rattle.nob_model.specs.Right.{right_after}
@@ -39,6 +40,8 @@ use Rattle.nob_model.proofs.Premises.{in_turn, item_acted, no_fault}
 use Rattle.nob_model.proofs.Carrying.{all_filter}
 use Rattle.nob_model_invariant.specs.Asking.{ask_in, answer_in, asks_among, answers_among, items_among, dirties_in, last_or, word_of, last_word, has_no, OkFirst, AnsweredInTurn}
 use Rattle.nob_model_invariant.proofs.BySession.{sent_stays}
+use Rattle.nob_model_invariant.proofs.Opened.{opens_above}
+use Rattle.nob_model_invariant.proofs.Anew.{none_sent_new}
 use Rattle.nob_model_invariant.proofs.Bools.{dirties_push, last_push, word_push}
 
 -- what space s answered a client for an index in the session in which it is, and what the client asked
@@ -377,12 +380,35 @@ act_answered s n limits c x p k D right are =
 pub exported_later : (s x : ℕ) (rep : WireRep) (D : List Deed) → is_exported s x D ≡ true → is_exported s x (did.Export rep ∷ D) ≡ true
 exported_later s x rep D known = any_push (is_same (record { owner = s; index = x })) (exports D) rep ∙ or_left (is_exported s x D) _ known
 
+-- before anything was asked in a session
+answered_none : (s n c x : ℕ) (D : List Deed) → asked_of c x D ≡ [] → gave_of s n c x D ≡ [] → is_entered s x c D ≡ false → IsAnswered s n c x D
+answered_none s n c x D asked answered entry =
+    subst (λ bs. AreAnswered bs (gave_of s n c x D) (is_exported s x D) (is_withdrawn x D) (is_entered s x c D)) (sym asked)
+    (subst (λ bs. AreAnswered [] bs (is_exported s x D) (is_withdrawn x D) (is_entered s x c D)) (sym answered)
+    (subst (λ (b : Bool). AreAnswered [] [] (is_exported s x D) (is_withdrawn x D) b) (sym entry)
+    (record { in_turn = record { each = refl; ok_first = tt }; denied = λ no. cc; enters = refl })))
+
+-- a session with the client that opens begins so
+opened_answered : (s n : ℕ) (limits : Limits) (c x q k : ℕ) (D : List Deed) → AreRightDeeds s n limits (did.Open q k ∷ D) → IsAnswered s n c x D → IsAnswered s n c x (did.Open q k ∷ D)
+opened_answered s n limits c x q k D right are = by (q == c) refl
+  where
+    asked : (own : Bool) → (q == c) ≡ own → asked_of c x (did.Open q k ∷ D) ≡ asks_among x (items_among (cond own [] (acted c D)))
+    asked own is = ap (λ (b : Bool). asks_among x (items_among (cond b [] (acted c D)))) is
+
+    entry : (own : Bool) → (q == c) ≡ own → is_entered s x c (did.Open q k ∷ D) ≡ cond own false (is_entered s x c D)
+    entry own is = ap (λ (b : Bool). cond b false (is_entered s x c D)) is
+
+    by : (own : Bool) → (q == c) ≡ own → IsAnswered s n c x (did.Open q k ∷ D)
+    by true own = answered_none s n c x (did.Open q k ∷ D) (asked true own) (ap (answers_among x) (none_sent_new s n c limits (did.Open q k) D right (opens_above s n c limits (did.Open q k) D right.0 own))) (entry true own)
+    by false other = other_deed s n c x (did.Open q k) D (number_kept c (did.Open q k) D other) refl (asked false other) (entry false other) (λ known. known) (λ gone. gone) are
+
 -- in every list of right deeds the owner answered what it was asked
 pub are_answered : (s n : ℕ) (limits : Limits) (c x : ℕ) (D : List Deed) → AreRightDeeds s n limits D → IsAnswered s n c x D
 are_answered s n limits c x [] right = record { in_turn = record { each = refl; ok_first = tt }; denied = λ no. cc; enters = refl }
 are_answered s n limits c x (did.Act p k ∷ D) right = act_answered s n limits c x p k D right (are_answered s n limits c x D right.1)
 are_answered s n limits c x (did.Export rep ∷ D) right = other_deed s n c x (did.Export rep) D refl refl refl refl (exported_later s x rep D) (λ gone. gone) (are_answered s n limits c x D right.1)
 are_answered s n limits c x (did.Withdraw index ∷ D) right = other_deed s n c x (did.Withdraw index) D refl refl refl refl (λ known. known) (λ gone. or_right (index == x) (is_withdrawn x D) gone) (are_answered s n limits c x D right.1)
+are_answered s n limits c x (did.Open q k ∷ D) right = opened_answered s n limits c x q k D right (are_answered s n limits c x D right.1)
 are_answered s n limits c x (deed ∷ D) right = other_deed s n c x deed D refl refl refl refl (λ known. known) (λ gone. gone) (are_answered s n limits c x D right.1)
 
 -- ---- each session

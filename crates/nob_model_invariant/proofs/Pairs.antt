@@ -136,6 +136,7 @@ own_more a b at_a at_b (did.Transmit q frames) first second right from paired = 
 own_more a b at_a at_b (did.Arrive frame count) first second right from paired = if_more a b at_a at_b (frame.from == b) (ends.Arrive frame (Ok (arrived.Took count))) first second right from paired
 own_more a b at_a at_b (did.Tick q) first second right from paired = if_more a b at_a at_b (q == b) (ends.Tick (Ok None)) first second right (λ own. tt) paired
 own_more a b at_a at_b (did.Closing q reason cause) first second right from paired = if_more a b at_a at_b (q == b) (call_of_closing b reason cause) first second right (closing_from b q reason cause (pair.transmitted_frames second) from) paired
+own_more a b at_a at_b (did.Open q k) first second right from paired = if_more a b at_a at_b (q == b) (ends.Reopen k (Ok tt)) first second right (λ own. tt) paired
 own_more a b at_a at_b deed first second right from paired = paired
 
 if_before : (a b : ℕ) (at_a : Limits) (own : Bool) (call : EndEntry) (calls : List EndEntry) → AreRightCalls a b at_a (cond own (call ∷ calls) calls) → AreRightCalls a b at_a calls
@@ -148,6 +149,7 @@ own_before a b at_a (did.Transmit q frames) calls right = if_before a b at_a (q 
 own_before a b at_a (did.Arrive frame count) calls right = if_before a b at_a (frame.from == b) _ calls right
 own_before a b at_a (did.Tick q) calls right = if_before a b at_a (q == b) _ calls right
 own_before a b at_a (did.Closing q reason cause) calls right = if_before a b at_a (q == b) _ calls right
+own_before a b at_a (did.Open q k) calls right = if_before a b at_a (q == b) _ calls right
 own_before a b at_a deed calls right = right
 
 -- by one right deed more at a, whose frame from b was given there, the calls on both ends are still those of a run

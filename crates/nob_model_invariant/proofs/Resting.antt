@@ -14,18 +14,19 @@ use Rattle.nob_model_types.specs.declared.deed.Deed.{Deed}
 use Rattle.nob_model_types.specs.declared.deed.Deed.TheVariants as did
 use Rattle.nob_model_types.specs.declared.message.Message.{Message}
 use Rattle.nob_model_types.specs.declared.message.RefCopy.{RefCopy}
-use Rattle.nob_model_types.specs.Sessions.{item_at, closed}
+use Rattle.nob_model_types.specs.Sessions.{item_at, closed, number}
 use Rattle.nob_model_types.specs.Messages.{new_message, new_copy, message_after, is_of, is_not_from, is_job, is_lost_message}
 use Rattle.nob_model_work.specs.declared.work.Outstanding.{Outstanding}
 use Rattle.nob_model_work.specs.Work.{without_first, wait, make_ready, make_reply, is_none_of, is_not_reply, after_message, after_act, after_settlement, without_waiting, after_settle, after_claim, after_finish, after_take, after_end, after_call, after_close, work_after, with_loans, work}
 use Rattle.nob_model_history.specs.Histories.{history_of}
 use Rattle.nob_model_history.specs.Transit.{is_some_of}
 use Rattle.nob_model.specs.Right.{right_after}
-use Rattle.nob_model.specs.Lists.{AreRightDeeds}
+use Rattle.nob_model.specs.Lists.{IsRightDeed, AreRightDeeds}
 use Rattle.nob_model.proofs.Accepted.{take_tells}
 use Rattle.nob_model.proofs.Doing.{was_answered}
 use Rattle.nob_model.proofs.Replying.{is_reply, replies_in, answered_once}
 use Rattle.nob_model.proofs.Waiting.{settled_message, all_weaker}
+use Rattle.nob_model_invariant.proofs.Opened.{opens_above}
 use Rattle.nob_model_invariant.proofs.Owners.{any_push}
 use Rattle.nob_model_invariant.specs.Copies.{is_waiting}
 
@@ -184,18 +185,23 @@ module _ (p k : ℕ) where
 abbrev pub rests : (s n p k : ℕ) → List Deed → Bool
 rests s n p k D = is_waiting p k (work s n D).waiting || closed p D
 
--- a session that is open was open before
-pub open_before : (p : ℕ) (deed : Deed) (D : List Deed) → closed p (deed ∷ D) ≡ false → closed p D ≡ false
-open_before p (did.Closing q reason cause) D up = (or_parts (q == p) (closed p D) up).1
-open_before p deed D up = up
+-- what leaves the number of a session opens none: where it is open it was open before
+pub open_before : (s n p : ℕ) (limits : Limits) (deed : Deed) (D : List Deed) → IsRightDeed s n limits deed D → number p (deed ∷ D) ≡ number p D → closed p (deed ∷ D) ≡ false → closed p D ≡ false
+open_before s n p limits (did.Closing q reason cause) D right same up = (or_parts (q == p) (closed p D) up).1
+open_before s n p limits (did.Open q k) D right same up = by (q == p) refl up
+  where
+    by : (own : Bool) → (q == p) ≡ own → cond own false (closed p D) ≡ false → closed p D ≡ false
+    by true own is = absurd (let above = opens_above s n p limits (did.Open q k) D right own in omega (arith, above, same))
+    by false other is = is
+open_before s n p limits deed D right same up = up
 
 pub or_false : (b c : Bool) → c ≡ false → (b || c) ≡ true → b ≡ true
 or_false true c none either = refl
 or_false false c none either = absurd (both_ways c none either)
 
--- so it stays, unless it is settled
-pub rests_on : (s n : ℕ) (limits : Limits) (p k : ℕ) (deed : Deed) (D : List Deed) → AreRightDeeds s n limits (deed ∷ D) → rests s n p k D ≡ true → (rests s n p k (deed ∷ D) ≡ true) ⊎ (deed ≡ did.Settle p k)
-rests_on s n limits p k deed D right rest = by (closed p (deed ∷ D)) refl
+-- so it stays while the space is in the session, unless it is settled
+pub rests_on : (s n : ℕ) (limits : Limits) (p k : ℕ) (deed : Deed) (D : List Deed) → AreRightDeeds s n limits (deed ∷ D) → number p (deed ∷ D) ≡ number p D → rests s n p k D ≡ true → (rests s n p k (deed ∷ D) ≡ true) ⊎ (deed ≡ did.Settle p k)
+rests_on s n limits p k deed D right same rest = by (closed p (deed ∷ D)) refl
   where
     on : (up : Bool) → (is_waiting p k (work s n (deed ∷ D)).waiting ≡ true) ⊎ (deed ≡ did.Settle p k) → ((is_waiting p k (work s n (deed ∷ D)).waiting || up) ≡ true) ⊎ (deed ≡ did.Settle p k)
     on up (inl waits) = inl (or_left (is_waiting p k (work s n (deed ∷ D)).waiting) up waits)
@@ -203,7 +209,7 @@ rests_on s n limits p k deed D right rest = by (closed p (deed ∷ D)) refl
 
     by : (b : Bool) → closed p (deed ∷ D) ≡ b → (rests s n p k (deed ∷ D) ≡ true) ⊎ (deed ≡ did.Settle p k)
     by true shut = inl (or_right (is_waiting p k (work s n (deed ∷ D)).waiting) (closed p (deed ∷ D)) shut)
-    by false up = on (closed p (deed ∷ D)) (waits_on p k s n limits deed D right up (or_false (is_waiting p k (work s n D).waiting) (closed p D) (open_before p deed D up) rest))
+    by false up = on (closed p (deed ∷ D)) (waits_on p k s n limits deed D right up (or_false (is_waiting p k (work s n D).waiting) (closed p D) (open_before s n p limits deed D right.0 same up) rest))
 
 -- ---- the message that comes
 

@@ -10,8 +10,7 @@ use Rattle.nob_model_types.specs.Objects.{is_exported}
 use Rattle.nob_model_history.specs.Histories.{history_of}
 use Rattle.nob_model_history.proofs.Numbered.{items_sent_in}
 use Rattle.nob_model.specs.Lists.{AreRightDeeds}
-use Rattle.nob_model_invariant.proofs.BySession.{acted_is}
-use Rattle.nob_model_invariant.proofs.EachSession.{each_session}
+use Rattle.nob_model_invariant.proofs.EachSession.{acted_is, each_session}
 use Rattle.std.specs.List.{AllByRecursion}
 use Rattle.nob_model_history.proofs.Inbox.{acted_takes}
 use Rattle.nob_model_invariant.specs.Settles.{settles_among, AreOnce, IsCarrying}
@@ -56,7 +55,7 @@ AreSettled pairs items = AreOnce (settles_among items) × AllByRecursion (λ k. 
 settled_now : (s n p : ℕ) (limits : Limits) (D : List Deed) → AreRightDeeds s n limits D → AreSettled (acted_during p (number p D) D) (items_sent_in p (number p D) (sent (history_of s n D)))
 settled_now s n p limits D right =
     let once = settled_once s n limits p D right in
-    subst (λ pairs. AreSettled pairs (items_sent_in p (number p D) (sent (history_of s n D)))) (acted_is p D)
+    subst (λ pairs. AreSettled pairs (items_sent_in p (number p D) (sent (history_of s n D)))) (acted_is s n p limits D right)
     (once.once, subst (λ (t : ℕ). AllByRecursion (λ k. k ≤ t) (settles_of s n p D)) (sym (acted_takes s n p D)) once.low, (settled_carry s n limits p D right).settled)
 
 settled_in : (n : ℕ) (limits : ℕ → Limits) (J : List Entry) → WorldRun n limits J → (a b session : ℕ) → AreSettled (acted_in a b session J) (sent_in n b a session J)

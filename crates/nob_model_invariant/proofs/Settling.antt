@@ -35,9 +35,12 @@ use Rattle.nob_model_history.proofs.Numbered.{items_sent_in, gifts_sent_now}
 use Rattle.nob_model.proofs.Waiting.{AreApart, IsOpenIn, are_waiting, settled_message, act_number, all_weaker}
 use Rattle.nob_model.specs.Lists.{IsRightDeed, AreRightDeeds}
 use Rattle.nob_model_history.proofs.Inbox.{takes_no_fewer}
+use Rattle.nob_model_history.proofs.Sessions.{opens, number_kept}
 use Rattle.nob_model_holdings.proofs.Lists.{all_both}
 use Rattle.nob_model_invariant.specs.Settles.{settle_in, is_in, AreOnce}
 use Rattle.nob_model_invariant.proofs.Owners.{any_push}
+use Rattle.nob_model_invariant.proofs.Opened.{opens_above}
+use Rattle.nob_model_invariant.proofs.Anew.{none_sent_new}
 
 -- ---- messages that wait, by one deed more
 
@@ -279,8 +282,8 @@ above_none : (t k : ℕ) (ks : List ℕ) → AllByRecursion (λ j. j ≤ t) ks �
 above_none t k [] low is = refl
 above_none t k (j ∷ ks) low is = or_from (j == k) (is_in k ks) (ne_eqb j k (λ same. (let most = low.0 in omega (arith, most, is, same)))) (above_none t k ks low.1 is)
 
-low_later : (s n p : ℕ) (deed : Deed) (D : List Deed) (ks : List ℕ) → AllByRecursion (λ k. k ≤ takes (calls_at p (history_of s n D))) ks → AllByRecursion (λ k. k ≤ takes (calls_at p (history_of s n (deed ∷ D)))) ks
-low_later s n p deed D ks low = all_weaker (λ k. k ≤ takes (calls_at p (history_of s n D))) (λ k. k ≤ takes (calls_at p (history_of s n (deed ∷ D)))) (λ k most. let more = takes_no_fewer s n p deed D in omega (arith, most, more)) ks low
+low_later : (s n p : ℕ) (deed : Deed) (D : List Deed) → opens p deed ≡ false → (ks : List ℕ) → AllByRecursion (λ k. k ≤ takes (calls_at p (history_of s n D))) ks → AllByRecursion (λ k. k ≤ takes (calls_at p (history_of s n (deed ∷ D)))) ks
+low_later s n p deed D kept ks low = all_weaker (λ k. k ≤ takes (calls_at p (history_of s n D))) (λ k. k ≤ takes (calls_at p (history_of s n (deed ∷ D)))) (λ k most. let more = takes_no_fewer s n p deed D kept in omega (arith, most, more)) ks low
 
 new_over : (s n : ℕ) (limits : Limits) (p : ℕ) (deed : Deed) (D : List Deed) → IsRightDeed s n limits deed D → SettledOnce s n p D → (q k : ℕ) (item : Item) → deed ≡ did.Act q k → item_at q k D ≡ Some item → IsOver p (settles_of s n p D) (new_message s n q k item (did.Act q k ∷ D))
 new_over s n limits p deed D right before q k item is found = λ own.
@@ -288,12 +291,12 @@ new_over s n limits p deed D right before q k item is found = λ own.
     above_none (takes (calls_at p (history_of s n D))) k (settles_of s n p D) before.low (next ∙ ap (λ (r : ℕ). takes (calls_at r (history_of s n D)) + 1) (eqb-true q p own))
 
 -- a deed that is no Settle
-other_once : (s n : ℕ) (limits : Limits) (p : ℕ) (deed : Deed) (D : List Deed) → number p (deed ∷ D) ≡ number p D → IsRightDeed s n limits deed D → is_settle deed ≡ false → SettledOnce s n p D → SettledOnce s n p (deed ∷ D)
-other_once s n limits p deed D stays right none before =
-    let same = settles_same s n p deed D stays none in
+other_once : (s n : ℕ) (limits : Limits) (p : ℕ) (deed : Deed) (D : List Deed) → opens p deed ≡ false → IsRightDeed s n limits deed D → is_settle deed ≡ false → SettledOnce s n p D → SettledOnce s n p (deed ∷ D)
+other_once s n limits p deed D kept right none before =
+    let same = settles_same s n p deed D (number_kept p deed D kept) none in
     record {
       over = subst (λ ks. AllByRecursion (IsOver p ks) (work s n (deed ∷ D)).waiting) (sym same) (waits_more (IsOver p (settles_of s n p D)) s n deed D (over_kept s n p (deed ∷ D) (settles_of s n p D)) (λ q k item is found some. new_over s n limits p deed D right before q k item is found) before.over);
-      low = subst (AllByRecursion (λ k. k ≤ takes (calls_at p (history_of s n (deed ∷ D))))) (sym same) (low_later s n p deed D (settles_of s n p D) before.low);
+      low = subst (AllByRecursion (λ k. k ≤ takes (calls_at p (history_of s n (deed ∷ D))))) (sym same) (low_later s n p deed D kept (settles_of s n p D) before.low);
       once = subst AreOnce (sym same) before.once;
     }
 
@@ -327,7 +330,7 @@ settle_once s n limits p q k D right before true own is =
     (without_first (is_of q k) (work s n D).waiting) (all_without (IsOver p ks) (is_of q k) (work s n D).waiting before.over) (only_one q k (work s n D).waiting m waits.1 told.4) in
     record {
       over = subst (λ js. AllByRecursion (IsOver p js) (work s n (did.Settle q k ∷ D)).waiting) (sym is) (others_wait (IsOver p (ks ++ k ∷ [])) s n q k D (over_kept s n p (did.Settle q k ∷ D) (ks ++ k ∷ [])) m told.4 others);
-      low = subst (AllByRecursion (λ j. j ≤ takes (calls_at p (history_of s n (did.Settle q k ∷ D))))) (sym is) (low_later s n p (did.Settle q k) D (ks ++ k ∷ []) (all_push (λ j. j ≤ takes (calls_at p (history_of s n D))) ks k before.low taken));
+      low = subst (AllByRecursion (λ j. j ≤ takes (calls_at p (history_of s n (did.Settle q k ∷ D))))) (sym is) (low_later s n p (did.Settle q k) D refl (ks ++ k ∷ []) (all_push (λ j. j ≤ takes (calls_at p (history_of s n D))) ks k before.low taken));
       once = subst AreOnce (sym is) (once_push ks k before.once fresh);
     }
 settle_once s n limits p q k D right before false own is =
@@ -336,9 +339,24 @@ settle_once s n limits p q k D right before false own is =
     let same = is ∙ append-nil ks in
     record {
       over = subst (λ js. AllByRecursion (IsOver p js) (work s n (did.Settle q k ∷ D)).waiting) (sym same) (others_wait (IsOver p ks) s n q k D (over_kept s n p (did.Settle q k ∷ D) ks) told.0 told.4 (all_without (IsOver p ks) (is_of q k) (work s n D).waiting before.over));
-      low = subst (AllByRecursion (λ j. j ≤ takes (calls_at p (history_of s n (did.Settle q k ∷ D))))) (sym same) (low_later s n p (did.Settle q k) D ks before.low);
+      low = subst (AllByRecursion (λ j. j ≤ takes (calls_at p (history_of s n (did.Settle q k ∷ D))))) (sym same) (low_later s n p (did.Settle q k) D refl ks before.low);
       once = subst AreOnce (sym same) before.once;
     }
+
+none_over : (p : ℕ) (ms : List Message) → AllByRecursion (IsOver p []) ms
+none_over p [] = tt
+none_over p (m ∷ ms) = ((λ own. refl), none_over p ms)
+
+-- a session that is opened anew
+open_once : (s n : ℕ) (limits : Limits) (p q k : ℕ) (D : List Deed) → AreRightDeeds s n limits (did.Open q k ∷ D) → SettledOnce s n p D → (b : Bool) → (q == p) ≡ b → SettledOnce s n p (did.Open q k ∷ D)
+open_once s n limits p q k D right before true own =
+    let none : settles_of s n p (did.Open q k ∷ D) ≡ [] = ap (filter_map settle_in) (none_sent_new s n p limits (did.Open q k) D right (opens_above s n p limits (did.Open q k) D right.0 own)) in
+    record {
+      over = subst (λ ks. AllByRecursion (IsOver p ks) (work s n (did.Open q k ∷ D)).waiting) (sym none) (none_over p (work s n (did.Open q k ∷ D)).waiting);
+      low = subst (AllByRecursion (λ j. j ≤ takes (calls_at p (history_of s n (did.Open q k ∷ D))))) (sym none) tt;
+      once = subst AreOnce (sym none) tt;
+    }
+open_once s n limits p q k D right before false other = other_once s n limits p (did.Open q k) D other right.0 refl before
 
 -- in every list of right deeds each message is settled once, while it waits
 pub settled_once : (s n : ℕ) (limits : Limits) (p : ℕ) (D : List Deed) → AreRightDeeds s n limits D → SettledOnce s n p D
@@ -346,4 +364,5 @@ settled_once s n limits p [] right = record { over = tt; low = tt; once = tt }
 settled_once s n limits p (did.Settle q k ∷ D) right =
     let told = settled_message s n limits q k D right in
     settle_once s n limits p q k D right (settled_once s n limits p D right.1) (is_peer s n q && q == p) (λ both. eqb-true q p (and_parts _ _ both).1) (settles_now s n p q k D told.0 told.4)
+settled_once s n limits p (did.Open q k ∷ D) right = open_once s n limits p q k D right (settled_once s n limits p D right.1) (q == p) refl
 settled_once s n limits p (deed ∷ D) right = other_once s n limits p deed D refl right.0 refl (settled_once s n limits p D right.1)
