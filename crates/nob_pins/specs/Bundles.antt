@@ -1,5 +1,5 @@
 -- Bundles as plain data: what is in transit to which peer in which item. No word tells their order.
-use Rattle.std.specs.Prelude.{ℕ, ◌≡◌, ◌-◌, ◌^◌, ◌==◌, ◌&&◌, Bool, true, false, not, nat_lt, nat_le, List, ◌∷◌, filter, length, get_or}
+use Rattle.std.specs.Prelude.{ℕ, ◌≡◌, ◌<◌, ◌-◌, ◌^◌, ◌==◌, ◌&&◌, Bool, true, false, not, nat_lt, nat_le, List, ◌∷◌, filter, length, get_or}
 use Rattle.std.specs.List.{list_any, sum_by}
 use Rattle.std.specs.List.Sorted.{IsPermutation}
 use Rattle.nob_ids.specs.Names.{is_same}
@@ -24,6 +24,10 @@ times rep reps = length (filter (λ other. is_same other rep) reps)
 -- how often the reference is in transit, repeats included
 abbrev pub count_of : List Pinned → WireRep → ℕ
 count_of bundles rep = sum_by (λ bundle. times rep bundle.reps) bundles
+
+-- a reference of this owner is in transit
+abbrev pub CountsOf : List Pinned → ℕ → Type 0
+CountsOf bundles owner = (rep : WireRep) × (rep.owner ≡ owner) × (0 < count_of bundles rep)
 
 -- whether so many more pins on this reference are too many to count
 abbrev pub is_full : List Pinned → ℕ → WireRep → Bool

@@ -1,6 +1,6 @@
 //! How often each reference is in transit.
 
-ghost use Rattle.std.specs.Prelude.{◌≡◌, ◌+◌, ◌-◌, ◌<◌, ◌≤◌, ◌^◌, [], length, nat_lt, IsOk, OnOk, if◌then◌else◌};
+ghost use Rattle.std.specs.Prelude.{◌≡◌, ◌+◌, ◌-◌, ◌<◌, ◌≤◌, ◌^◌, [], length, nat_lt, true, false, IsOk, OnOk, if◌then◌else◌};
 ghost use Rattle.nob_ids.specs.declared.wire_rep.WireRep.{WireRep};
 ghost use Rattle.nob_ids.specs.Names.{is_same};
 ghost use Rattle.nob_pins.specs.Bundles.{times};
@@ -8,7 +8,7 @@ ghost use Rattle.nob_pins.specs.Evidence.{reps_of};
 ghost use Rattle.nob_pins.specs.Peers.{count_in};
 
 use crate::pin::TransitPin;
-use nob_ids::WireRep;
+use nob_ids::{SpaceId, WireRep};
 use nob_rows::Rows;
 use std::alloc::{AllocError, Global};
 use std::marker::Model;
@@ -46,6 +46,16 @@ impl Counts {
         ensures small { result < 2 ^ 64 }
     {
         self.counts.get(rep).unwrap_or(0)
+    }
+
+    // Whether a reference of this owner has a count: at most 7 steps.
+    pub(crate) fn has_of(&self, owner: SpaceId) -> bool
+        ensures found { result ≡ true → (rep : WireRep) × (rep.owner ≡ owner)
+            × (0 < count_in self.now.rows rep) }
+        ensures none { result ≡ false → (rep : WireRep) → rep.owner ≡ owner
+            → count_in self.now.rows rep ≡ 0 }
+    {
+        self.counts.has_of(owner)
     }
 
     // Makes room for the counts of so many more references.

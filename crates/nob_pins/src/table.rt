@@ -5,7 +5,7 @@ ghost use Rattle.std.specs.List.{list_any};
 ghost use Rattle.nob_ids.specs.declared.wire_rep.WireRep.{WireRep};
 ghost use Rattle.nob_ids.specs.Names.{most_spaces};
 ghost use Rattle.nob_pins.specs.Evidence.{AreOf, AreTo, reps_of};
-ghost use Rattle.nob_pins.specs.Bundles.{has_room, KeepsRoom, Unchanged, has_bundle, bundle_of, Adds, TakesOut, TakesOutAll, KeepsOthers, of_others, of_peer, count_of};
+ghost use Rattle.nob_pins.specs.Bundles.{has_room, KeepsRoom, Unchanged, has_bundle, bundle_of, Adds, TakesOut, TakesOutAll, KeepsOthers, of_others, of_peer, count_of, CountsOf};
 ghost use Rattle.nob_pins.specs.Peers.{all_pinned, rooms_of, pinned_at, is_many, count_in, AreByPeer, AreOfPeer, KeepsRooms, has_item};
 
 use crate::bundle::Bundle;
@@ -214,6 +214,15 @@ impl PinTable {
         ensures { result ≡ min (count_of self.now.bundles rep) (2 ^ 64 - 1) }
     {
         self.counts.get(rep)
+    }
+
+    /// Whether a reference of this owner is in transit. At most 7 steps in a tree.
+    pub fn has_of(&self, owner: SpaceId) -> bool
+        ensures found { result ≡ true → CountsOf self.now.bundles owner }
+        ensures none { result ≡ false → (rep : WireRep) → rep.owner ≡ owner
+            → count_of self.now.bundles rep ≡ 0 }
+    {
+        self.counts.has_of(owner)
     }
 
     /// Ends a table that has no bundle.

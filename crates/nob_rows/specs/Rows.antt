@@ -1,5 +1,5 @@
 -- Rows by reference: what stands at a reference, and what a change of one row leaves alone.
-use Rattle.std.specs.Prelude.{◌≡◌, ℕ, Bool, List, [], ◌∷◌, Option, Some, None, if◌then◌else◌}
+use Rattle.std.specs.Prelude.{◌≡◌, ℕ, Bool, List, [], ◌∷◌, Option, Some, None, IsSome, if◌then◌else◌}
 use Rattle.std.specs.Map.{lookup, keys_of}
 use Rattle.std.specs.Set.{remove_key}
 use Rattle.std.specs.List.{IsDistinct}
@@ -27,6 +27,14 @@ module _ {X : Type 0} where
   -- new has `row` at the reference, and at every other one what old has
   abbrev pub Puts : List (WireRep × X) → List (WireRep × X) → WireRep → Option X → Type 0
   Puts old new rep row = (other : WireRep) → row_at new other ≡ (if is_same rep other then row else row_at old other)
+
+  -- a row's reference is this owner's
+  abbrev pub HasOf : ℕ → List (WireRep × X) → Type 0
+  HasOf owner rows = (rep : WireRep) × (rep.owner ≡ owner) × IsSome (row_at rows rep)
+
+  -- no row's reference is this owner's
+  abbrev pub HasNoneOf : ℕ → List (WireRep × X) → Type 0
+  HasNoneOf owner rows = (rep : WireRep) → rep.owner ≡ owner → row_at rows rep ≡ None
 
 -- the same references in the same order, each with what is made of what stood there
 abbrev pub each_row : {X Y : Type 0} → (X → Y) → List (WireRep × X) → List (WireRep × Y)

@@ -1,5 +1,5 @@
 -- The tree that rows stand in: each node's children continue its reference by a bit. No public clause cites this module.
-use Rattle.std.specs.Prelude.{◌≡◌, ℕ, ◌+◌, ◌<◌, ◌≤◌, ◌==◌, Bool, false, List, map, Option, Some, None, slice_get, if◌then◌else◌}
+use Rattle.std.specs.Prelude.{◌≡◌, ℕ, ◌+◌, ◌<◌, ◌≤◌, ◌==◌, Bool, true, false, List, map, Option, Some, None, slice_get, if◌then◌else◌}
 use Prim.Native.Nat.{zero, suc}
 use Rattle.nob_ids.specs.Names.{is_same}
 use Rattle.nob_ids.specs.declared.wire_rep.WireRep.{WireRep}
@@ -54,6 +54,16 @@ module _ {X : Type 0} where
   -- no place that a reference leads to has it
   abbrev pub IsNowhere : List (Node X) → WireRep → Type 0
   IsNowhere nodes rep = (depth place : ℕ) → depth ≤ 70 → walk nodes rep depth ≡ Some place → has_rep rep (slice_get nodes place) ≡ false
+
+  -- whether a node that there may be has a reference of this owner
+  abbrev pub is_of : ℕ → Option (Node X) → Bool
+  is_of owner None = false
+  is_of owner (Some node) = node.rep.owner == owner
+
+  -- the bits of an owner lead to a node with a reference of its, or else they lead to none
+  abbrev pub Meets : List (Node X) → ℕ → Bool → Type 0
+  Meets nodes owner true = (place : ℕ) × (is_of owner (slice_get nodes place) ≡ true)
+  Meets nodes owner false = (depth place : ℕ) → depth ≤ 6 → walk nodes (record { owner = owner; index = 0 }) depth ≡ Some place → is_of owner (slice_get nodes place) ≡ false
 
   -- a reference's way ends at a place
   pub record EndsAt (nodes : List (Node X)) (rep : WireRep) (place : ℕ) : Type 0 where

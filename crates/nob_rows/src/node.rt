@@ -8,8 +8,8 @@ use nob_ids::WireRep;
 /// How many bits a reference has.
 pub const BITS: u8 = 70;
 
-// How many of them its owner has.
-const OWNER_BITS: u8 = 6;
+/// How many of them its owner has.
+pub const OWNER_BITS: u8 = 6;
 
 /// A row with its reference, how many bits lead to it, and the places of the nodes that go on by a
 /// bit of 0 and of 1. Place 0 is the root's, so it stands for no child.

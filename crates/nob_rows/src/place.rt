@@ -1,10 +1,10 @@
 //! Where the nodes stand.
 
 ghost use Rattle.std.specs.Prelude.{◌≡◌, ℕ, ◌<◌, ◌≤◌, Some, None, MatchOption, Option, length, slice_get, true};
-ghost use Rattle.nob_rows.specs.Tree.{EndsAt, IsLeaf, IsNowhere, IsTree, child_of, has_rep, if_place, next_of, walk};
+ghost use Rattle.nob_rows.specs.Tree.{EndsAt, IsLeaf, IsNowhere, IsTree, Meets, child_of, has_rep, if_place, is_of, next_of, walk};
 
-use crate::node::{BITS, Node, bit};
-use nob_ids::WireRep;
+use crate::node::{BITS, Node, OWNER_BITS, bit};
+use nob_ids::{SpaceId, WireRep};
 
 /// The place of a node's child on a side, if it has one.
 pub fn child<X>(nodes: &[Node<X>], place: usize, one: bool) -> Option<usize>
@@ -90,6 +90,35 @@ pub fn end_of<X>(nodes: &[Node<X>], rep: &WireRep) -> usize
         place = next;
     }
     place
+}
+
+// Whether the node at a place has a reference of this owner.
+fn is_of_at<X>(nodes: &[Node<X>], place: usize, owner: SpaceId) -> bool
+    ensures { result ≡ is_of owner (slice_get nodes.now place) }
+{
+    let Some(node) = nodes.get(place) else {
+        return false;
+    };
+    node.rep.owner == owner
+}
+
+/// Whether a node has a reference of this owner: one that the bits of the owner lead to, or past. At
+/// most 7 steps.
+pub fn has_of<X>(nodes: &[Node<X>], owner: SpaceId) -> bool
+    ensures { Meets nodes.now owner result }
+{
+    let agent = WireRep { owner, index: 0 };
+    let mut place = 0;
+    for depth in 0..OWNER_BITS {
+        if is_of_at(nodes, place, owner) {
+            return true;
+        }
+        let Some(next) = child(nodes, place, bit(&agent, depth)) else {
+            return false;
+        };
+        place = next;
+    }
+    is_of_at(nodes, place, owner)
 }
 
 /// A leaf at or below a place. At most 70 steps.

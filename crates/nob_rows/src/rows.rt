@@ -1,16 +1,16 @@
 //! The rows.
 
-ghost use Rattle.std.specs.Prelude.{◌≡◌, ℕ, ◌^◌, ◌+◌, ◌<◌, ◌≤◌, ◌++◌, ◌∷◌, [], length, IsSome, None, Some, OnOk, IsOk, if◌then◌else◌, is_some, slice_get};
+ghost use Rattle.std.specs.Prelude.{◌≡◌, ℕ, ◌^◌, ◌+◌, ◌<◌, ◌≤◌, ◌++◌, ◌∷◌, [], true, false, length, IsSome, None, Some, OnOk, IsOk, if◌then◌else◌, is_some, slice_get};
 ghost use Rattle.std.specs.Map.{set_value};
 ghost use Rattle.nob_ids.specs.Names.{is_same};
 ghost use Rattle.nob_ids.specs.declared.wire_rep.WireRep.{WireRep};
-ghost use Rattle.nob_rows.specs.Rows.{RowList, row_at, reps_of, Puts, IsOnce};
+ghost use Rattle.nob_rows.specs.Rows.{RowList, row_at, reps_of, Puts, IsOnce, HasOf, HasNoneOf};
 
 use crate::change::{push_node, take_node};
 use crate::node::{Node, whole};
-use crate::place::find;
+use crate::place::{find, has_of};
 use crate::write::set_row;
-use nob_ids::WireRep;
+use nob_ids::{SpaceId, WireRep};
 use std::alloc::{AllocError, Global};
 use std::marker::Model;
 
@@ -67,6 +67,14 @@ impl<X: Copy + Drop> Rows<X> {
             return None;
         };
         Some(self.nodes[place].row)
+    }
+
+    /// Whether there is a row whose reference is this owner's. At most 7 steps.
+    pub fn has_of(&self, owner: SpaceId) -> bool
+        ensures found { result ≡ true → HasOf owner self.now.rows }
+        ensures none { result ≡ false → HasNoneOf owner self.now.rows }
+    {
+        has_of(&self.nodes, owner)
     }
 
     /// The reference whose row is at a place among the rows. Constant time.

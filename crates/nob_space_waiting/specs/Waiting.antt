@@ -1,7 +1,7 @@
 -- The messages of a space that wait for their references, as a contract sees them.
-use Rattle.std.specs.Prelude.{◌≡◌, ℕ, ◌+◌, nat_lt, Bool, true, false, ◌&&◌, not, List, [], ◌∷◌, length, map, filter}
+use Rattle.std.specs.Prelude.{◌≡◌, ℕ, ◌+◌, nat_lt, Bool, true, false, ◌&&◌, ◌==◌, not, List, [], ◌∷◌, length, map, filter}
 use Rattle.std.specs.List.{list_any, list_all}
-use Rattle.nob_ids.specs.Names.{is_same}
+use Rattle.nob_ids.specs.Names.{is_counted, is_same}
 use Rattle.nob_ids.specs.declared.wire_rep.WireRep.{WireRep}
 use Rattle.nob_model_types.specs.declared.message.Loan.{Loan}
 use Rattle.nob_model_types.specs.declared.message.Loan.TheVariants as loans
@@ -14,6 +14,14 @@ pub record WaitingList : Type 0 where
   pub items : List Message
   pub awaited : List WireRep
   pub room : ℕ
+
+-- whether a copy is of a counted reference of this owner
+abbrev pub is_copy_of : ℕ → RefCopy → Bool
+is_copy_of owner copy = copy.rep.owner == owner && is_counted copy.rep
+
+-- whether a message carries a counted reference of this owner
+abbrev pub carries_any_of : ℕ → Message → Bool
+carries_any_of owner message = list_any (is_copy_of owner) message.copies
 
 -- whether a loan is due
 abbrev pub is_due : Loan → Bool

@@ -8,6 +8,8 @@ ghost use Rattle.nob_model_types.specs.Messages.{is_not_from};
 ghost use Rattle.nob_model_work.specs.Work.{without_first};
 ghost use Rattle.nob_slots.specs.Numbers.{numbers_of};
 ghost use Rattle.nob_slots.specs.Slots.{is_number, IsRising, PutsMark};
+ghost use Rattle.std.specs.List.{list_any};
+ghost use Rattle.nob_space_waiting.specs.Waiting as words;
 ghost use Rattle.nob_space_waiting.specs.Waiting.{due_to_all, granted_message, is_awaited, is_due_in, is_settleable_in, IsNew, waits_for, is_due};
 ghost use Rattle.nob_space_waiting.specs.Lines.{AreAwaited, AreMarked, LineList, places_for, times_in, without};
 
@@ -122,6 +124,16 @@ fn line_up(lines: &mut Lines, copies: &[RefCopy], stamp: u64) -> u64
     waits
 }
 
+// Whether a message carries a counted reference of this owner. Linear in its copies.
+fn carries_any_of(owner: SpaceId, message: &Message) -> bool
+    ensures { result ≡ words.carries_any_of owner message.now }
+{
+    let copies = message.copies.as_slice();
+    copies
+        .iter()
+        .any(|copy| copy.rep.owner == owner && copy.rep.is_counted())
+}
+
 // Takes the entry of a stamp out, if there is one.
 fn take_one(slots: &mut Slots<Entry>, stamp: u64)
     ensures rows { slots.new.rows ≡ remove_entry (is_number stamp) slots.old.rows }
@@ -176,6 +188,16 @@ impl Waiting {
             slots: &self.slots,
             stamps: self.froms.iter(peer),
         }
+    }
+
+    /// Whether a message carries a counted reference of this owner. Linear in the messages and their
+    /// copies.
+    pub fn carries_any_of(&self, owner: SpaceId) -> bool
+        ensures { result ≡ list_any (words.carries_any_of owner) self.now.items }
+    {
+        self.slots
+            .iter()
+            .any(|(_stamp, entry)| carries_any_of(owner, &entry.message))
     }
 
     /// Makes room for one message of so many copies. Only memory fails it, or that more came in all

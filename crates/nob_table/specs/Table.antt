@@ -13,7 +13,7 @@ use Rattle.nob_table_rows.specs.declared.fault.TableError.{TableError}
 use Rattle.nob_table_rows.specs.declared.fault.TableError.TheVariants.{Fault, OutOfMemory}
 use Rattle.nob_table_rows.specs.Counts as counts
 use Rattle.nob_table_rows.specs.Counts.{is_held}
-use Rattle.nob_ids.specs.Names.{is_same}
+use Rattle.nob_ids.specs.Names.{is_counted, is_same}
 use Rattle.nob_table_rows.specs.Objects.{is_marked}
 use Rattle.nob_table_rows.specs.Order.{place_in, IsRising}
 use Rattle.nob_rows.specs.Rows.{row_at, reps_of}
@@ -276,6 +276,14 @@ IsFirstSpare t from index = (from ≤ index) × (is_spare_at t index ≡ true) �
 -- whether the reference is to an object of this owner, another space
 abbrev pub is_of : Table → ℕ → WireRep → Bool
 is_of t owner rep = rep.owner == owner && not (rep.owner == t.me)
+
+-- the table knows a reference to an object of this owner, another space; if it is no surrogate it is held
+pub record KnowsOf (t : Table) (owner : ℕ) : Type 0 where
+  pub rep : WireRep
+  pub of : is_of t owner rep ≡ true
+  pub counted : is_counted rep ≡ true
+  pub known : is_known (standing t rep).state ≡ true
+  pub held : place_of t rep ≡ None → is_held (standing t rep).counts ≡ true
 
 -- what holds of every table, said of its fields
 pub record IsTable (me exported dirties : ℕ) (objects counted : List (WireRep × Counts)) (surrogates : List (WireRep × Surrogate)) : Type 0 where

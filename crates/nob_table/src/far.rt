@@ -1,13 +1,13 @@
 //! The references to other spaces' objects.
 
-ghost use Rattle.std.specs.Prelude.{◌≡◌, ◌==◌, ◌&&◌, ◌+◌, ◌<◌, ◌≤◌, ◌^◌, [], length, not, filter, None, Some, IsSome, IfSome, is_some, true, IsOk, OnOk, OnErr, MatchOption, if◌then◌else◌};
+ghost use Rattle.std.specs.Prelude.{◌≡◌, ◌==◌, ◌&&◌, ◌+◌, ◌<◌, ◌≤◌, ◌^◌, [], length, not, filter, None, Some, IsSome, IfSome, is_some, true, false, IsOk, OnOk, OnErr, MatchOption, if◌then◌else◌};
 ghost use Rattle.std.specs.Option.{option_map};
 ghost use Rattle.nob_ids.specs.declared.wire_rep.WireRep.{WireRep};
 ghost use Rattle.nob_table_rows.specs.Counts.{no_counts, is_held};
 ghost use Rattle.nob_table.specs.Far.{NeverIdleIn, IsFirstIn, NeverSpareIn, IsFirstSpareIn};
 ghost use Rattle.nob_table_rows.specs.Objects.{SameMarks, is_marked};
 ghost use Rattle.nob_ids.specs.Names.{is_same};
-ghost use Rattle.nob_rows.specs.Rows.{row_at, reps_of, Puts, IsOnce, keep_if};
+ghost use Rattle.nob_rows.specs.Rows.{row_at, reps_of, Puts, IsOnce, HasOf, HasNoneOf, keep_if};
 ghost use Rattle.nob_table_rows.specs.Standings.{waiting_surrogate, with_grant};
 
 use crate::losing::lose_all;
@@ -102,6 +102,14 @@ impl Far {
         ensures { result ≡ row_at self.now.surrogates rep }
     {
         self.surrogates.get(rep)
+    }
+
+    /// Whether there are counts of a reference of this owner. At most 7 steps in a tree.
+    pub fn has_of(&self, owner: SpaceId) -> bool
+        ensures found { result ≡ true → HasOf owner self.now.counted }
+        ensures none { result ≡ false → HasNoneOf owner self.now.counted }
+    {
+        self.counted.has_of(owner)
     }
 
     /// The surrogate with the least place from this one on that is granted and has no holds, with

@@ -1,13 +1,13 @@
 //! The table itself.
 
-ghost use Rattle.std.specs.Prelude.{◌≡◌, List, is_some, ◌+◌, ◌^◌, ℕ, ◌<◌, ◌≤◌, ◌==◌, false, ◌++◌, ◌∷◌, [], filter, not, length, slice_get, None, Some, IsSome, IfSome, IsTrue, IsOk, OnOk, OnErr, IfOk, IfErr, MatchOption, MatchResult, if◌then◌else◌};
+ghost use Rattle.std.specs.Prelude.{◌≡◌, List, is_some, ◌+◌, ◌^◌, ℕ, ◌<◌, ◌≤◌, ◌==◌, true, false, ◌++◌, ◌∷◌, [], filter, not, length, slice_get, None, Some, IsSome, IfSome, IsTrue, IsOk, OnOk, OnErr, IfOk, IfErr, MatchOption, MatchResult, if◌then◌else◌};
 ghost use Rattle.nob_ids.specs.declared.wire_rep.WireRep.{WireRep};
 ghost use Rattle.nob_table_rows.specs.Counts.{is_held};
 ghost use Rattle.nob_ids.specs.Names.{is_same};
 ghost use Rattle.nob_rows.specs.Rows.{IsOnce};
 ghost use Rattle.std.specs.List.{list_any};
 ghost use Rattle.nob_table_rows.specs.Standings.{unknown, is_known, is_live, is_lost, is_surrogate, state_of, withdrawn, exported_standing, pending_standing, with_counts, in_state, after_hold, after_release, after_close};
-ghost use Rattle.nob_table.specs.Table.{Table, standing, surrogate_total, most_objects, most_surrogates, most_index, surrogate_reps, place_of, IsOrder, live, live_reps, own, export_fault, hold_fault, release_fault, pending_fault, answer_fault, remove_fault, withdraw_fault, Becomes, SetsKept, Marked, is_kept, is_keepable, SameObjects, ExportLeaves, WithdrawalLeaves, ChangeLeaves, RemovalLeaves, Stays, Places, IsRefusal, NoneIdle, IsFirstIdle, NeverUnheld, IsFirstUnheld, NeverSpare, IsFirstSpare, NeverSpareFrom, IsFirstSpareFrom, is_of};
+ghost use Rattle.nob_table.specs.Table.{Table, standing, surrogate_total, most_objects, most_surrogates, most_index, surrogate_reps, place_of, IsOrder, live, live_reps, own, export_fault, hold_fault, release_fault, pending_fault, answer_fault, remove_fault, withdraw_fault, Becomes, SetsKept, Marked, is_kept, is_keepable, SameObjects, ExportLeaves, WithdrawalLeaves, ChangeLeaves, RemovalLeaves, Stays, Places, IsRefusal, NoneIdle, IsFirstIdle, NeverUnheld, IsFirstUnheld, NeverSpare, IsFirstSpare, NeverSpareFrom, IsFirstSpareFrom, is_of, KnowsOf};
 
 use crate::far::Far;
 use nob_ids::{SpaceId, WireRep};
@@ -186,6 +186,16 @@ impl ObjectTable {
             → IsTrue (is_kept self.now rep) → IsTrue (is_surrogate (standing self.now rep).state) }
     {
         self.far.len()
+    }
+
+    /// Whether the table has anything of an object of this owner, another space: a surrogate, or a lost
+    /// reference, which is held. At most 7 steps in a tree.
+    pub fn has_of(&self, owner: SpaceId) -> bool
+        ensures found { result ≡ true → KnowsOf self.now owner }
+        ensures none { result ≡ false → (rep : WireRep) → is_of self.now owner rep ≡ true
+            → standing self.now rep ≡ unknown }
+    {
+        owner != self.me && self.far.has_of(owner)
     }
 
     /// How many Dirties were sent: the place that the surrogate of the next one gets. Constant
