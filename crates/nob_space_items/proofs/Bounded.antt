@@ -35,6 +35,7 @@ use Rattle.nob_model_acting.specs.Acting.{messages}
 use Rattle.nob_model.specs.Right.{own_ref}
 use Rattle.nob_model.specs.Lists.{IsRightDeed, AreRightDeeds}
 use Rattle.nob_model.proofs.Calling.{calls_law}
+use Rattle.nob_model.proofs.Reopening.{open_number, open_last}
 use Rattle.nob_model.proofs.Carrying.{AllOutstanding, all_outstanding}
 use Rattle.nob_space_state.specs.Parts.{State}
 use Rattle.nob_space_state.specs.Stands.{Stands}
@@ -101,17 +102,9 @@ asked_sent p (one ∷ xs) =
     let here = one_asked p one.to one.item (filter_map (λ (x : SentItem). asks_for x.to x.item) xs) (count_all p xs) (asked_sent p xs) in
     elim (one.to == p) as (λ b. owner_count p (cons_option (asks_for one.to one.item) (filter_map (λ (x : SentItem). asks_for x.to x.item) xs)) ≤ cond b (suc (count_all p xs)) (count_all p xs) → owner_count p (cons_option (asks_for one.to one.item) (filter_map (λ (x : SentItem). asks_for x.to x.item) xs)) ≤ length (cond b (one ∷ filter (λ (x : SentItem). x.to == p) xs) (filter (λ (x : SentItem). x.to == p) xs))) [ true ↦ λ low. low | false ↦ λ low. low ] here
 
--- what was sent to p, with the numbers of a session more: as much as fits in the sessions up to the present one, and what is handed in that
+-- no more was sent to p than the sessions before the present one have numbers for, and what is handed in that
 abbrev IsBounded : (s n p : ℕ) → List Deed → Type 0
 IsBounded s n p D = count_all p (sent (history_of s n D)) + 1099511627776 ≤ number p D * 1099511627776 + length (handed (calls_at p (history_of s n D)))
-
--- an Open takes a number above the present one
-opened_above : (s n : ℕ) (limits : Limits) (p k : ℕ) (D : List Deed) → IsRightDeed s n limits (Open p k) D → number p D < k
-opened_above s n limits p k D right = ?
-
--- and none above the greatest
-opened_few : (s n : ℕ) (limits : Limits) (p k : ℕ) (D : List Deed) → IsRightDeed s n limits (Open p k) D → k ≤ 4294967295
-opened_few s n limits p k D right = ?
 
 -- a deed that opens no session with p sends what it hands on
 bounded_kept : (s n p : ℕ) (deed : Deed) (D : List Deed) → opens p deed ≡ false → IsBounded s n p D → IsBounded s n p (deed ∷ D)
@@ -150,9 +143,9 @@ all_bounded : (s n p : ℕ) (limits : Limits) (D : List Deed) → AreRightDeeds 
 all_bounded s n p limits [] right = (let low : 0 + 1099511627776 ≤ 1 * 1099511627776 + 0 = omega arith in low)
 all_bounded s n p limits (deed ∷ D) right = elim (opens p deed) as (λ b. opens p deed ≡ b → IsBounded s n p (deed ∷ D)) [
   | true ↦ λ anew.
-      let open = opened p deed anew in
-      let rises = opened_above s n limits p open.0 D (subst (λ (d : Deed). IsRightDeed s n limits d D) open.1 right.0) in
-      subst (λ (d : Deed). IsBounded s n p (d ∷ D)) (sym open.1) (bounded_opened s n p open.0 limits D rises right.1 (all_bounded s n p limits D right.1))
+      let is = opened p deed anew in
+      let rises = open_number s n limits p is.0 D (subst (λ (d : Deed). IsRightDeed s n limits d D) is.1 right.0) in
+      subst (λ (d : Deed). IsBounded s n p (d ∷ D)) (sym is.1) (bounded_opened s n p is.0 limits D rises right.1 (all_bounded s n p limits D right.1))
   | false ↦ λ other. bounded_kept s n p deed D other (all_bounded s n p limits D right.1)
 ] refl
 
@@ -161,10 +154,10 @@ number_low : (s n p : ℕ) (limits : Limits) (D : List Deed) → AreRightDeeds s
 number_low s n p limits [] right = (let low : 1 ≤ 4294967295 = omega arith in low)
 number_low s n p limits (deed ∷ D) right = elim (opens p deed) as (λ b. opens p deed ≡ b → number p (deed ∷ D) ≤ 4294967295) [
   | true ↦ λ anew.
-      let open = opened p deed anew in
-      let few = opened_few s n limits p open.0 D (subst (λ (d : Deed). IsRightDeed s n limits d D) open.1 right.0) in
+      let is = opened p deed anew in
+      let few : is.0 ≤ 4294967295 = open_last s n limits p is.0 D (subst (λ (d : Deed). IsRightDeed s n limits d D) is.1 right.0) in
       let own : (p == p) ≡ true = eq-eqb p p refl in
-      let now : number p (deed ∷ D) ≡ open.0 = ap (λ (d : Deed). number p (d ∷ D)) open.1 ∙ ap (λ (b : Bool). cond b open.0 (number p D)) own in
+      let now : number p (deed ∷ D) ≡ is.0 = ap (λ (d : Deed). number p (d ∷ D)) is.1 ∙ ap (λ (b : Bool). cond b is.0 (number p D)) own in
       omega (arith, few, now)
   | false ↦ λ other. (let same = number_kept p deed D other in let before = number_low s n p limits D right.1 in omega (arith, same, before))
 ] refl
