@@ -23,6 +23,7 @@ pub mod Running
 pub mod Finishing
 pub mod Closings
 pub mod Arrivals
+pub mod Opening
 pub mod Unpinned
 pub mod Nexts
 pub mod Numbered
