@@ -1,8 +1,9 @@
 -- Deeds that ask for nothing, and those that leave the surrogates as they were.
 use Rattle.std.proofs.Common.{◌≡◌, ℕ, ◌&&◌, ◌||◌, not, Bool, true, false, cond, List, [], ◌∷◌, ◌++◌, filter, find, Option, Some, None, refl, sym, ap, subst, ◌∙◌, ◌⊎◌, inl, inr}
+use Rattle.std.specs.Prelude.{◌==◌}
 use Rattle.std.specs.List.{AllByRecursion, cons_option}
 use Rattle.std.proofs.lemmas.List.{append-nil}
-use Rattle.std.proofs.lemmas.Bool.{or_left, or_right}
+use Rattle.std.proofs.lemmas.Bool.{eqb-true, and_right, or_left, or_right}
 use Rattle.nob_ids.specs.declared.wire_rep.WireRep.{WireRep}
 use Rattle.nob_item.specs.declared.item.Item.{Item}
 use Rattle.nob_item.specs.declared.item.Item.TheVariants as items
@@ -15,7 +16,7 @@ use Rattle.nob_model_types.specs.declared.turns.OwnerAnswer.TheVariants as said
 use Rattle.nob_model_types.specs.declared.turns.Turns.{Turns}
 use Rattle.nob_model_types.specs.Sessions.{is_peer, closed, item_at}
 use Rattle.nob_model_types.specs.Objects.{is_live, is_exported}
-use Rattle.nob_model_types.specs.Turns.{turns, turns_after, is_pending, is_granted, is_refused, is_standing, is_yes, is_no, with_answer, names}
+use Rattle.nob_model_types.specs.Turns.{no_turns, turns, turns_after, is_pending, is_granted, is_refused, is_standing, is_yes, is_no, with_answer, names}
 use Rattle.nob_model_types.specs.Messages.{is_of, is_lost_message}
 use Rattle.nob_model_work.specs.declared.gifts.Gift.{Gift}
 use Rattle.nob_model_work.specs.declared.work.Run.{Run}
@@ -130,11 +131,12 @@ dirties_same s n deed D none = dirties_more s n deed D ∙ ap (λ (reps : List W
 
 -- ---- surrogates
 
--- whether a deed may change the surrogates: an Act on a Call or a Reply, a Clean, a closing
+-- whether a deed may change the surrogates: an Act on a Call or a Reply, a Clean, a closing, an Open of a session that is open
 abbrev pub moves_surrogates : Deed → List Deed → Bool
 moves_surrogates (did.Act p k) D = is_message (item_at p k D)
 moves_surrogates (did.Clean rep) D = true
 moves_surrogates (did.Closing p reason cause) D = true
+moves_surrogates (did.Open p k) D = not (closed p D)
 moves_surrogates (_) D = false
 
 still_asks_nothing : (deed : Deed) (D : List Deed) → moves_surrogates deed D ≡ false → acts_on_message deed D ≡ false
@@ -164,12 +166,18 @@ item_standing s n p rep (Some (items.DirtyOk index)) D answers none = answer_sta
 item_standing s n p rep (Some (items.DirtyNo index)) D answers none = answer_standing said.Refused (inr refl) (names rep p index) (turns s n rep D) (λ named. subst (λ (r : WireRep). is_pending (turns s n r D) ≡ true) (named_ref rep p index named) answers)
 item_standing s n p rep (Some (items.Clean index)) D answers none = refl
 
+-- turns that begin anew are no surrogate's, nor were those on a session that had closed
+opened_none : (b : Bool) (t : Turns) (ended : Bool) → (b ≡ true → not ended ≡ false) → (is_standing (cond b no_turns t) && not (cond b false ended)) ≡ (is_standing t && not ended)
+opened_none true t ended none = sym (and_right (is_standing t) (not ended) (none refl))
+opened_none false t ended none = refl
+
 surrogate_same : (s n : ℕ) (deed : Deed) (D : List Deed) → TookTurns s n (deed ∷ D) → moves_surrogates deed D ≡ false → (rep : WireRep) → has_surrogate s n (deed ∷ D) rep ≡ has_surrogate s n D rep
 surrogate_same s n (did.Act p k) D took none rep = ap (λ (b : Bool). b && not (closed rep.owner D)) (item_standing s n p rep (item_at p k D) D took.0 none)
 surrogate_same s n (did.Clean other) D took none rep = cc
 surrogate_same s n (did.Closing p reason cause) D took none rep = cc
+surrogate_same s n (did.Open p k) D took none rep = opened_none (p == rep.owner) (turns s n rep D) (closed rep.owner D) (λ own. subst (λ (q : ℕ). not (closed q D) ≡ false) (eqb-true p rep.owner own) none)
 surrogate_same s n deed D took none rep = refl
 
--- where client and owner took turns no deed but an Act on a Call or a Reply, a Clean and a closing changes the surrogates
+-- where client and owner took turns no deed but an Act on a Call or a Reply, a Clean, a closing and an Open of an open session changes the surrogates
 pub surrogates_same : (s n : ℕ) (deed : Deed) (D : List Deed) → TookTurns s n (deed ∷ D) → moves_surrogates deed D ≡ false → surrogates s n (history_of s n (deed ∷ D)) ≡ surrogates s n (history_of s n D)
 surrogates_same s n deed D took none = surrogates_kept s n deed D (asks_nothing s n deed D (still_asks_nothing deed D none)) (surrogate_same s n deed D took none)
