@@ -158,10 +158,10 @@ given_sessions s n deed D rise = gifts_sessions D (gifts s n deed D (work s n D)
 
 none_newer : (p k : ℕ) (D : List Deed) (one : SentItem) → number p D < k → one.session ≤ number one.to D → is_sent_to p k one ≡ false
 none_newer p k D one above most = false_from_ne_true _ (λ there.
-  let parts = and_parts (one.to == p) (one.session == k) there in
-  let session : one.session ≡ k = eqb-true one.session k parts.1 in
-  let least : one.session ≤ number p D = subst (λ (q : ℕ). one.session ≤ number q D) (eqb-true one.to p parts.0) most in
-  omega (arith, above, session, least))
+    let parts = and_parts (one.to == p) (one.session == k) there in
+    let session : one.session ≡ k = eqb-true one.session k parts.1 in
+    let least : one.session ≤ number p D = subst (λ (q : ℕ). one.session ≤ number q D) (eqb-true one.to p parts.0) most in
+    omega (arith, above, session, least))
 
 -- so nothing was sent in a session with p that is newer than the present one
 pub none_sent_newer : (p k : ℕ) (D : List Deed) → number p D < k → (xs : List SentItem) → AreOfSessions D xs → filter (is_sent_to p k) xs ≡ []

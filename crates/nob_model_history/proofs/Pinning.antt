@@ -142,10 +142,10 @@ opening_gives_nothing s n p k D W = refl
 opened_pins : (p k : ℕ) (D : List Deed) → number p D < k → closed p D ≡ true → (one : SentItem) → one.session ≤ number one.to D → is_pinned (did.Open p k ∷ D) one ≡ is_pinned D one
 opened_pins p k D above ended one most = elim (p == one.to) as (λ (b : Bool). (p == one.to) ≡ b → (is_some_of (counted_in one.item) && one.session == cond b k (number one.to D) && not (cond b false (is_settled one.to one.number D)) && not (cond b false (closed one.to D))) ≡ is_pinned D one) [
   | true ↦ λ own.
-    let same : p ≡ one.to = eqb-true p one.to own in
-    let older : (one.session == k) ≡ false = ne_eqb one.session k (λ is. let below : number one.to D < k = subst (λ (q : ℕ). number q D < k) same above in omega (arith, is, below, most)) in
-    let gone : closed one.to D ≡ true = subst (λ (q : ℕ). closed q D ≡ true) same ended in
-    none_pinned (is_some_of (counted_in one.item)) (one.session == k) (is_of_present D one) (not (is_settled one.to one.number D)) (closed one.to D) older gone
+      let same : p ≡ one.to = eqb-true p one.to own in
+      let older : (one.session == k) ≡ false = ne_eqb one.session k (λ is. let below : number one.to D < k = subst (λ (q : ℕ). number q D < k) same above in omega (arith, is, below, most)) in
+      let gone : closed one.to D ≡ true = subst (λ (q : ℕ). closed q D ≡ true) same ended in
+      none_pinned (is_some_of (counted_in one.item)) (one.session == k) (is_of_present D one) (not (is_settled one.to one.number D)) (closed one.to D) older gone
   | false ↦ λ other. refl
 ] refl
   where

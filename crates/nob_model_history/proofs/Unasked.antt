@@ -3,7 +3,7 @@ use Rattle.std.proofs.Common.{◌≡◌, ℕ, ◌&&◌, ◌||◌, not, Bool, tru
 use Rattle.std.specs.Prelude.{◌==◌}
 use Rattle.std.specs.List.{AllByRecursion, cons_option}
 use Rattle.std.proofs.lemmas.List.{append-nil}
-use Rattle.std.proofs.lemmas.Bool.{eqb-true, and_right, or_left, or_right}
+use Rattle.std.proofs.lemmas.Bool.{eqb-true, not-false, or_left, or_right}
 use Rattle.nob_ids.specs.declared.wire_rep.WireRep.{WireRep}
 use Rattle.nob_item.specs.declared.item.Item.{Item}
 use Rattle.nob_item.specs.declared.item.Item.TheVariants as items
@@ -16,7 +16,7 @@ use Rattle.nob_model_types.specs.declared.turns.OwnerAnswer.TheVariants as said
 use Rattle.nob_model_types.specs.declared.turns.Turns.{Turns}
 use Rattle.nob_model_types.specs.Sessions.{is_peer, closed, item_at}
 use Rattle.nob_model_types.specs.Objects.{is_live, is_exported}
-use Rattle.nob_model_types.specs.Turns.{no_turns, turns, turns_after, is_pending, is_granted, is_refused, is_standing, is_yes, is_no, with_answer, names}
+use Rattle.nob_model_types.specs.Turns.{turns, turns_after, is_pending, is_granted, is_refused, is_standing, is_yes, is_no, with_answer, names}
 use Rattle.nob_model_types.specs.Messages.{is_of, is_lost_message}
 use Rattle.nob_model_work.specs.declared.gifts.Gift.{Gift}
 use Rattle.nob_model_work.specs.declared.work.Run.{Run}
@@ -26,7 +26,7 @@ use Rattle.nob_model_history.specs.Histories.{history_of}
 use Rattle.nob_model_history.specs.Premises.{AnswersPending, TookTurns}
 use Rattle.nob_model_history.specs.Transit.{asks_for, dirties, surrogates}
 use Rattle.nob_model_history.proofs.Dirtying.{asked_in, dirties_more}
-use Rattle.nob_model_history.proofs.Surrogates.{has_surrogate, surrogates_kept}
+use Rattle.nob_model_history.proofs.Surrogates.{has_surrogate, anew_none, surrogates_kept}
 use Rattle.nob_model_history.proofs.Turning.{after_answer, named_ref}
 
 -- whether an item is a Call or a Reply
@@ -166,16 +166,11 @@ item_standing s n p rep (Some (items.DirtyOk index)) D answers none = answer_sta
 item_standing s n p rep (Some (items.DirtyNo index)) D answers none = answer_standing said.Refused (inr refl) (names rep p index) (turns s n rep D) (λ named. subst (λ (r : WireRep). is_pending (turns s n r D) ≡ true) (named_ref rep p index named) answers)
 item_standing s n p rep (Some (items.Clean index)) D answers none = refl
 
--- turns that begin anew are no surrogate's, nor were those on a session that had closed
-opened_none : (b : Bool) (t : Turns) (ended : Bool) → (b ≡ true → not ended ≡ false) → (is_standing (cond b no_turns t) && not (cond b false ended)) ≡ (is_standing t && not ended)
-opened_none true t ended none = sym (and_right (is_standing t) (not ended) (none refl))
-opened_none false t ended none = refl
-
 surrogate_same : (s n : ℕ) (deed : Deed) (D : List Deed) → TookTurns s n (deed ∷ D) → moves_surrogates deed D ≡ false → (rep : WireRep) → has_surrogate s n (deed ∷ D) rep ≡ has_surrogate s n D rep
 surrogate_same s n (did.Act p k) D took none rep = ap (λ (b : Bool). b && not (closed rep.owner D)) (item_standing s n p rep (item_at p k D) D took.0 none)
 surrogate_same s n (did.Clean other) D took none rep = cc
 surrogate_same s n (did.Closing p reason cause) D took none rep = cc
-surrogate_same s n (did.Open p k) D took none rep = opened_none (p == rep.owner) (turns s n rep D) (closed rep.owner D) (λ own. subst (λ (q : ℕ). not (closed q D) ≡ false) (eqb-true p rep.owner own) none)
+surrogate_same s n (did.Open p k) D took none rep = anew_none (p == rep.owner) (turns s n rep D) (closed rep.owner D) (λ own. subst (λ (q : ℕ). closed q D ≡ true) (eqb-true p rep.owner own) (not-false (closed p D) none))
 surrogate_same s n deed D took none rep = refl
 
 -- where client and owner took turns no deed but an Act on a Call or a Reply, a Clean, a closing and an Open of an open session changes the surrogates
