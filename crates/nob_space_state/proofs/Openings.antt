@@ -1,7 +1,7 @@
 -- The opening of a session anew: what the looks tell, and the state that it leaves. The session had closed and nothing of
 -- its peer's objects was left, so that what the words say anew is what the state has.
-use Rattle.std.proofs.Common.{◌≡◌, ℕ, ◌+◌, ◌-◌, ◌≤◌, ◌<◌, max, Bool, true, false, cond, not, ◌&&◌, ◌||◌, ◌==◌, List, [], ◌∷◌, ◌++◌, length, map, filter, flat_map, get_or, Option, Some, None, Result, Ok, Err, refl, sym, ap, subst, ◌∙◌, arith, if◌then◌else◌}
-use Rattle.std.specs.Prelude.{nat_lt, nat_le}
+use Rattle.std.proofs.Common.{◌≡◌, ℕ, ◌+◌, ◌-◌, ◌≤◌, ◌<◌, max, Bool, true, false, cond, not, ◌&&◌, ◌||◌, ◌==◌, List, [], ◌∷◌, ◌++◌, length, map, filter, flat_map, filter_map, get_or, None, Ok, Err, refl, sym, ap, subst, ◌∙◌, arith, if◌then◌else◌}
+use Rattle.std.specs.Prelude.{nat_lt}
 use lib.ListN.{set}
 use Rattle.std.specs.List.{AllByRecursion, list_any, sum_by}
 use Rattle.std.proofs.lemmas.Bool.Decides.{nat_tests, Decides-eqb}
@@ -18,7 +18,6 @@ use Rattle.nob_table_rows.specs.Counts as counts
 use Rattle.nob_table_rows.specs.Standings as standings
 use Rattle.nob_table_rows.specs.Standings.{unknown, is_known}
 use Rattle.nob_table_rows.specs.declared.standing.Standing.{Standing}
-use Rattle.nob_table_rows.specs.declared.standing.State.{State as TableState}
 use Rattle.nob_table_rows.specs.declared.standing.State.TheVariants as states
 use Rattle.nob_table.specs.Table.{Table, standing, is_of, KnowsOf}
 use Rattle.nob_model_session.specs.End.{last_session, seen}
@@ -28,62 +27,47 @@ use Rattle.nob_model_types.specs.declared.answer.Answer.TheVariants as answers
 use Rattle.nob_model_types.specs.declared.refusal.Refusal.TheVariants as refusals
 use Rattle.nob_model_types.specs.declared.deed.Deed.{Deed}
 use Rattle.nob_model_types.specs.declared.deed.Deed.TheVariants.{Open}
-use Rattle.nob_model_types.specs.declared.message.Loan.{Loan}
-use Rattle.nob_model_types.specs.declared.message.Loan.TheVariants as loans
 use Rattle.nob_model_types.specs.declared.message.Message.{Message}
 use Rattle.nob_model_types.specs.declared.message.RefCopy.{RefCopy}
 use Rattle.nob_model_types.specs.declared.turns.Turns.{Turns}
-use Rattle.nob_model_types.specs.Messages.{loan_after, copy_after, message_after}
-use Rattle.nob_model_types.specs.Sessions.{is_peer, closed, number}
-use Rattle.nob_model_types.specs.Turns.{turns, no_turns, is_own, is_usable, is_granted, is_lost}
+use Rattle.nob_model_types.specs.Sessions.{is_peer, closed}
+use Rattle.nob_model_types.specs.Turns.{turns, no_turns, is_own, is_lost}
 use Rattle.nob_model_work.specs.declared.work.Outstanding.{Outstanding}
-use Rattle.nob_model_work.specs.declared.work.Run.{Run}
-use Rattle.nob_model_work.specs.declared.gifts.Gift.{Gift}
-use Rattle.nob_model_work.specs.Gifts.{gifts, gifts_of}
-use Rattle.nob_model_work.specs.Work.{work, work_after, run_after}
+use Rattle.nob_model_work.specs.Work.{work}
 use Rattle.nob_model_history.specs.declared.history.History.{History}
 use Rattle.nob_model_history.specs.declared.transit.SentItem.{SentItem}
 use Rattle.nob_model_history.specs.Ends.{calls_at}
 use Rattle.nob_model_history.specs.Histories.{history_of}
 use Rattle.nob_model_history.specs.Holds.{times, gains, releases, lent_in, is_held}
 use Rattle.nob_model_history.specs.Listing.{is_listed, is_entered}
-use Rattle.nob_model_history.specs.Transit.{is_pinned, is_settled, is_some_of, sent, with_gifts, next_sent}
 use Rattle.nob_model_history.specs.Transit as transit
 use Rattle.nob_model_acting.specs.Sending.{◌or_else◌, refuse_if, unless}
-use Rattle.nob_model_history.proofs.Pinning.{bundles_opened}
 use Rattle.nob_model_history.proofs.Sessions.{number_is}
-use Rattle.nob_model.proofs.Made.{AreFixed, all_fixed, fixed_map, work_fixed, fixed_stays}
-use Rattle.nob_model.proofs.Waiting.{all_weaker}
-use Rattle.nob_model.specs.Lists.{IsRightDeed, AreRightDeeds}
+use Rattle.nob_model.proofs.Reopening.{open_peer, open_closed, open_unheld, open_uncarried, opened_work, opened_sent, opened_calls, opened_bundles}
+use Rattle.nob_model.specs.Lists.{IsRightDeed}
 use Rattle.nob_model.specs.Opening.{is_owned_by, holds_any_of, still_held, next_number, right_open}
 use Rattle.nob_model.specs.Opening as opening
-use Rattle.nob_space_waiting.specs.Waiting.{is_copy_of, carries_any_of, waits_for, due_to, due_to_all, is_awaited}
-use Rattle.nob_space_holds.specs.Shows.{TableStands, AreUsed, far_state}
+use Rattle.nob_space_waiting.specs.Waiting.{carries_any_of, waits_for, due_to_all, is_awaited}
+use Rattle.nob_space_holds.specs.Shows.{TableStands, far_state}
 use Rattle.nob_space_holds.proofs.Marked.{used_still}
 use Rattle.nob_space_state.specs.Looks.{has_closed}
 use Rattle.nob_space_state.specs.Opening.{next_of}
 use Rattle.nob_space_state.specs.Parts.{State, with_sessions}
-use Rattle.nob_space_state.specs.Stands.{Stands, EndsStand, PinsStand, AreAwaited, bundle}
+use Rattle.nob_space_state.specs.Stands.{Stands, AreAwaited, bundle}
 use Rattle.nob_space_state.proofs.Awaited.{same_lost}
-use Rattle.nob_space_state.proofs.Ends.{IsOneCall, end_there, ends_changed}
-use Rattle.nob_space_state.proofs.Finishing.{none_of, counted_append, state_sound}
-use Rattle.nob_space_state.proofs.Orderly.{orderly}
+use Rattle.nob_space_state.proofs.Ends.{end_there, ends_changed}
+use Rattle.nob_space_state.proofs.Finishing.{none_of, counted_append}
 use Rattle.nob_space_state.proofs.Pinned.{pins_there}
 use Rattle.nob_space_state.proofs.Rows.{differ}
-use Rattle.nob_space_state.proofs.Running.{IsSound, AreSound, all_push, filter_counted}
+use Rattle.nob_space_state.proofs.Running.{filter_counted}
 use Rattle.nob_space_holds.proofs.Counted.{times_both}
-use Rattle.nob_space_state.proofs.Told.{closed_there, held_there, number_there}
+use Rattle.nob_space_state.proofs.Told.{closed_there, held_there}
 
 -- ---- lists
 
 or_true : (b : Bool) → (b || true) ≡ true
 or_true true = refl
 or_true false = refl
-
--- neither of two
-neither : (a b : Bool) → (a || b) ≡ false → (a ≡ false) × (b ≡ false)
-neither true b e = absurd (cc)
-neither false b e = (refl, e)
 
 -- a test that a reference passes is passed in each list with that reference
 passed_there : (test : WireRep → Bool) (rep : WireRep) (reps : List WireRep) → test rep ≡ true → 1 ≤ times rep reps → list_any test reps ≡ true
@@ -124,23 +108,6 @@ carried_counted (one ∷ items) = counted_append (counted_in one.item) (flat_map
 known_holds : (has : Bool) → is_known (if has then states.Lost else states.Unknown) ≡ true → has ≡ true
 known_holds true e = refl
 known_holds false e = absurd (cc)
-
--- no copy of a counted reference of an owner, none that waits for one
-none_waits : (p : ℕ) (rep : WireRep) (copies : List RefCopy) → rep.owner == p ≡ true → AllByRecursion (λ (copy : RefCopy). is_counted copy.rep ≡ true) copies → list_any (is_copy_of p) copies ≡ false → length (filter (waits_for rep) copies) ≡ 0
-none_waits p rep [] its all none = refl
-none_waits p rep (copy ∷ copies) its all none =
-    let parts = neither (is_copy_of p copy) (list_any (is_copy_of p) copies) none in
-    let other : copy.rep.owner == p ≡ false = elim (copy.rep.owner == p) as (λ b. (b && is_counted copy.rep) ≡ false → b ≡ false) [ true ↦ λ e. absurd (let bad : true ≡ false = sym all.0 ∙ e in cc) | false ↦ λ _. refl ] parts.0 in
-    let apart : rep.owner == copy.rep.owner ≡ false = grind (arith, nat_tests, its, other) in
-    rw apart (none_waits p rep copies its all.1 parts.1)
-
-none_due : (s n p : ℕ) (rep : WireRep) (messages : List Message) → rep.owner == p ≡ true → AllByRecursion (IsSound s n) messages → list_any (carries_any_of p) messages ≡ false → due_to_all rep messages ≡ 0
-none_due s n p rep [] its all none = refl
-none_due s n p rep (message ∷ messages) its all none =
-    let parts = neither (carries_any_of p message) (list_any (carries_any_of p) messages) none in
-    let here = none_waits p rep message.copies its all.0.counted parts.0 in
-    let rest = none_due s n p rep messages its all.1 parts.1 in
-    omega (arith, here, rest)
 
 -- the table has nothing of an object of the owner, another space
 abbrev pub KnowsNoneOf : Table → ℕ → Type 0
@@ -284,124 +251,95 @@ module _ {s n : ℕ} {limits : Limits} {st : State} {D : List Deed} (stands : St
             open_of_free s n p (history_of s n D) peer shut unheld (within_last (next_number p (history_of s n D)) (subst (λ j. j ≤ last_session) same low))
             ∙ ap (λ j. Ok (answers.Opened j)) (sym same)
 
--- ---- one deed more: the outstanding work
-
--- a loan that can't be made now is as before
-loan_less : (before after : Bool) (loan : Loan) → (after ≡ true → before ≡ true) → loan_after before loan ≡ loan → loan_after after loan ≡ loan
-loan_less before true loans.Due less same = let is : before ≡ true = less refl in absurd (let bad : loans.Lent ≡ loans.Due = ap (λ b. loan_after b loans.Due) (sym is) ∙ same in cc)
-loan_less before false loans.Due less same = refl
-loan_less before after loans.Lent less same = refl
-loan_less before after loans.Never less same = refl
-
--- what can be used once a session has opened could be used before
-usable_less : (own here granted cut : Bool) (k : ℕ) (t : Turns) → is_granted t ≡ granted → (own || (is_granted (if here then no_turns else t) && not (if here then false else cut))) ≡ true → (own || (granted && not cut)) ≡ true
-usable_less true here granted cut k t same e = refl
-usable_less false true granted cut k t same e = absurd (cc)
-usable_less false false granted cut k t same e = sym (ap (λ b. b && not cut) same) ∙ e
-
-module _ (s n p k : ℕ) (D : List Deed) where
-  copy_less : (copy : RefCopy) → copy_after s n D copy ≡ copy → copy_after s n (Open p k ∷ D) copy ≡ copy
-  unfolding copy_after
-  copy_less copy same = λ i. record {
-    rep = copy.rep;
-    loan = loan_less (is_own s copy.rep || is_usable s n copy.rep D) (is_own s copy.rep || is_usable s n copy.rep (Open p k ∷ D)) copy.loan
-        (usable_less (is_own s copy.rep) (p == copy.rep.owner) (is_granted (turns s n copy.rep D)) (closed copy.rep.owner D) k (turns s n copy.rep D) refl)
-        (ap (λ (c : RefCopy). c.loan) same) i;
-  }
-
-  message_less : (message : Message) → message_after s n D message ≡ message → message_after s n (Open p k ∷ D) message ≡ message
-  unfolding message_after
-  message_less message same =
-      let copies : map (λ copy. copy_after s n (Open p k ∷ D) copy) message.copies ≡ message.copies =
-      fixed_map (λ copy. copy_after s n (Open p k ∷ D) copy) message.copies
-      (all_weaker (λ copy. copy_after s n D copy ≡ copy) (λ copy. copy_after s n (Open p k ∷ D) copy ≡ copy) copy_less message.copies
-      (all_fixed (λ copy. copy_after s n D copy) message.copies (ap (λ (m : Message). m.copies) same))) in
-      λ i. record { from = message.from; session = message.session; number = message.number; item = message.item; copies = copies i }
-
-  run_less : (run : Run) → run_after s n D run ≡ run → run_after s n (Open p k ∷ D) run ≡ run
-  unfolding run_after
-  run_less run same = λ i. record { job = run.job; message = message_less run.message (ap (λ (r : Run). r.message) same) i }
-
-  -- the outstanding work stays as it is
-  pub opened_work : work s n (Open p k ∷ D) ≡ work s n D
-  unfolding work_after
-  opened_work =
-      let fixed : AreFixed s n D (work s n D) = work_fixed s n D in
-      let messages : (ms : List Message) → AllByRecursion (λ message. message_after s n D message ≡ message) ms → AllByRecursion (λ message. message_after s n (Open p k ∷ D) message ≡ message) ms =
-      all_weaker (λ message. message_after s n D message ≡ message) (λ message. message_after s n (Open p k ∷ D) message ≡ message) message_less in
-      fixed_stays s n (Open p k ∷ D) (work s n D) record {
-        waiting = messages (work s n D).waiting fixed.waiting;
-        ready = messages (work s n D).ready fixed.ready;
-        running = all_weaker (λ run. run_after s n D run ≡ run) (λ run. run_after s n (Open p k ∷ D) run ≡ run) run_less (work s n D).running fixed.running;
-        replies = messages (work s n D).replies fixed.replies;
-      }
-
--- ---- one deed more: the words of the session
+-- ---- one deed more
 
 opened_listed : (here cut entered : Bool) → (here ≡ true → cut ≡ true) → (not (if here then false else cut) && (if here then false else entered)) ≡ (not cut && entered)
 opened_listed true true entered shut = refl
 opened_listed true false entered shut = absurd (let bad : false ≡ true = shut refl in cc)
 opened_listed false cut entered shut = refl
 
-pub opened_calls : (s n p k : ℕ) (D : List Deed) → IsOneCall s n p (Open p k) (ends.Reopen k (Ok tt)) D
-unfolding gifts gifts_of
-opened_calls s n p k D = λ q. refl
+-- what isn't held of a session that closed, the table doesn't know
+far_unknown : (cut has : Bool) (t : Turns) → cut ≡ true → has ≡ false → far_state cut has t ≡ states.Unknown
+far_unknown cut has t shut free = λ i. far_state (shut i) (free i) t
 
-opened_dirties : (s n p k : ℕ) (D : List Deed) → transit.dirties (history_of s n (Open p k ∷ D)) ≡ transit.dirties (history_of s n D)
-unfolding gifts gifts_of
-opened_dirties s n p k D = refl
+-- no copy of the peer's, none that waits for a reference of the peer's
+none_waits : (p : ℕ) (rep : WireRep) (copies : List RefCopy) → rep.owner ≡ p → AllByRecursion (λ (copy : RefCopy). (p == copy.rep.owner) ≡ false) copies → length (filter (waits_for rep) copies) ≡ 0
+none_waits p rep [] its none = refl
+none_waits p rep (copy ∷ copies) its none =
+    let apart : rep.owner == copy.rep.owner ≡ false = subst (λ q. q == copy.rep.owner ≡ false) (sym its) none.0 in
+    rw apart (none_waits p rep copies its none.1)
 
-module _ {s n : ℕ} {limits : Limits} {st : State} {D : List Deed} (stands : Stands s n limits st D) (p k : ℕ) (peer : is_peer s n p ≡ true) (cut : has_closed st.sessions p ≡ true) where
+none_due : (p : ℕ) (rep : WireRep) (messages : List Message) → rep.owner ≡ p → AllByRecursion (λ (m : Message). AllByRecursion (λ (copy : RefCopy). (p == copy.rep.owner) ≡ false) m.copies) messages → due_to_all rep messages ≡ 0
+none_due p rep [] its none = refl
+none_due p rep (message ∷ messages) its none =
+    let here = none_waits p rep message.copies its none.0 in
+    let rest = none_due p rep messages its none.1 in
+    omega (arith, here, rest)
+
+nothing_due : (many : ℕ) → many ≡ 0 → nat_lt 0 many ≡ false
+nothing_due many none = grind (arith, nat_tests, none)
+
+module _ {s n : ℕ} {limits : Limits} {st : State} {D : List Deed} (stands : Stands s n limits st D) (p k : ℕ) (its : IsRightDeed s n limits (Open p k) D) where
   -- nobody is listed anew, nor given up
   listed_then : (index client : ℕ) → is_listed s index client (Open p k ∷ D) ≡ is_listed s index client D
-  listed_then index client = opened_listed (p == client) (closed client D) (is_entered s index client D) (λ same. subst (λ q. closed q D ≡ true) ((Decides-eqb p client).0 same) (sym (closed_there stands p) ∙ cut))
+  listed_then index client = opened_listed (p == client) (closed client D) (is_entered s index client D) (λ same. subst (λ q. closed q D ≡ true) ((Decides-eqb p client).0 same) (open_closed s n limits p k D its))
 
-  -- nor has anything pins anew
-  bundles_then : number p D < k → transit.bundles (history_of s n (Open p k ∷ D)) ≡ transit.bundles (history_of s n D)
-  bundles_then above = bundles_opened s n p k D (above, (orderly stands).rises) (sym (closed_there stands p) ∙ cut)
+  bundles_then : transit.bundles (history_of s n (Open p k ∷ D)) ≡ transit.bundles (history_of s n D)
+  bundles_then = opened_bundles s n limits p k D (its, stands.right)
 
-  -- what the table has it shows of the new session too, where it knows nothing of the peer's
-  table_then : number p D < k → KnowsNoneOf st.table p → TableStands s n st.table (history_of s n (Open p k ∷ D))
-  table_then above none = record {
+  -- the same Dirties were sent
+  dirties_then : transit.dirties (history_of s n (Open p k ∷ D)) ≡ transit.dirties (history_of s n D)
+  dirties_then = ap (filter_map (λ (one : SentItem). transit.asks_for one.to one.item)) (opened_sent s n p k D)
+
+  -- the table knows nothing of the peer's
+  unknown_then : (rep : WireRep) → is_counted rep ≡ true → is_own s rep ≡ false → rep.owner ≡ p → (standing st.table rep).state ≡ states.Unknown
+  unknown_then rep counted own is =
+      stands.table.far rep counted own
+      ∙ far_unknown (closed rep.owner D) (counts.is_held (standing st.table rep).counts) (turns s n rep D)
+      (subst (λ q. closed q D ≡ true) (sym is) (open_closed s n limits p k D its))
+      (held_there stands rep counted ∙ open_unheld s n limits p k D its rep is counted)
+
+  -- so it shows what is said of the new session too
+  table_then : TableStands s n st.table (history_of s n (Open p k ∷ D))
+  table_then = record {
     me = stands.table.me;
     exported = stands.table.exported;
     live = stands.table.live;
     far = λ rep counted own. elim (p == rep.owner) as (λ b. p == rep.owner ≡ b → (standing st.table rep).state ≡ far_state (if b then false else closed rep.owner D) (counts.is_held (standing st.table rep).counts) (if b then no_turns else turns s n rep D)) [
-      | true ↦ λ same. ap (λ (it : Standing). it.state) (none rep (is_of_there stands p peer rep (nat_eq_equiv.symm rep.owner p ∙ same)))
+      | true ↦ λ same. unknown_then rep counted own (sym ((Decides-eqb p rep.owner).0 same))
       | false ↦ λ other. stands.table.far rep counted own
     ] refl;
     hands = stands.table.hands;
     loans = λ rep counted. stands.table.loans rep counted ∙ ap (λ w. times rep (lent_in s w)) (sym (opened_work s n p k D));
-    dirties = stands.table.dirties ∙ ap length (sym (opened_dirties s n p k D));
-    places = λ rep. stands.table.places rep ∙ ap (λ reps. if standings.is_surrogate (standing st.table rep).state then transit.last_place rep reps else None) (sym (opened_dirties s n p k D));
-    kept = used_still s st.table st.table (history_of s n D) (history_of s n (Open p k ∷ D)) (λ rep. refl) (bundles_then above) listed_then stands.table.kept;
+    dirties = stands.table.dirties ∙ ap length (sym dirties_then);
+    places = λ rep. stands.table.places rep ∙ ap (λ reps. if standings.is_surrogate (standing st.table rep).state then transit.last_place rep reps else None) (sym dirties_then);
+    kept = used_still s st.table st.table (history_of s n D) (history_of s n (Open p k ∷ D)) (λ rep. refl) bundles_then listed_then stands.table.kept;
   }
 
-  -- what is awaited is so of others, whose references no message lost or found
-  awaited_then : list_any (carries_any_of p) st.work.waiting ≡ false → AreAwaited s n st.awaited st.work.waiting (Open p k ∷ D)
-  awaited_then uncarried = λ rep due. elim (p == rep.owner) as (λ b. p == rep.owner ≡ b → is_awaited st.awaited rep ≡ not (is_lost s n rep (Open p k ∷ D))) [
+  -- what is awaited is others', and these are lost as before
+  awaited_then : AreAwaited s n st.awaited st.work.waiting (Open p k ∷ D)
+  awaited_then = λ rep due. elim (p == rep.owner) as (λ b. p == rep.owner ≡ b → is_awaited st.awaited rep ≡ not (is_lost s n rep (Open p k ∷ D))) [
     | true ↦ λ same.
-        let free = none_due s n p rep st.work.waiting (nat_eq_equiv.symm rep.owner p ∙ same) (state_sound stands 0).waiting uncarried in
-        absurd (grind (arith, nat_tests, due, free))
+        let uncarried : AllByRecursion (λ (m : Message). AllByRecursion (λ (copy : RefCopy). (p == copy.rep.owner) ≡ false) m.copies) st.work.waiting = subst (λ (w : Outstanding). AllByRecursion (λ (m : Message). AllByRecursion (λ (copy : RefCopy). (p == copy.rep.owner) ≡ false) m.copies) w.waiting) (sym stands.work) (open_uncarried s n limits p k D its) in
+        absurd (differ due (nothing_due (due_to_all rep st.work.waiting) (none_due p rep st.work.waiting (sym ((Decides-eqb p rep.owner).0 same)) uncarried)))
     | false ↦ λ other. stands.awaited rep due ∙ ap not (sym (same_lost s n rep D (Open p k ∷ D) (rw other refl) (rw other refl)))
   ] refl
 
   -- after the opening
-  pub opened_stands : (old new : Roomy) → old ≡ get_or st.sessions (p - 1) old → KnowsNoneOf st.table p → list_any (carries_any_of p) st.work.waiting ≡ false → number p D < k
-      → session.Stands s p limits new.end (ends.Reopen k (Ok tt) ∷ calls_at p (history_of s n D)) → IsRightDeed s n limits (Open p k) D
+  pub opened_stands : (old new : Roomy) → old ≡ get_or st.sessions (p - 1) old → session.Stands s p limits new.end (ends.Reopen k (Ok tt) ∷ calls_at p (history_of s n D))
       → Stands s n limits (with_sessions (set st.sessions (p - 1) new) st) (Open p k ∷ D)
-  opened_stands old new is none uncarried above after its =
-      let there = end_there s n limits st.sessions (history_of s n D) p old stands.ends peer is in
+  opened_stands old new is after =
+      let there = end_there s n limits st.sessions (history_of s n D) p old stands.ends (open_peer s n limits p k D its) is in
       let here : calls_at p (history_of s n (Open p k ∷ D)) ≡ ends.Reopen k (Ok tt) ∷ calls_at p (history_of s n D) = opened_calls s n p k D p ∙ rw (nat_eq_equiv.refl p) refl in
       record {
         ends = ends_changed s n limits st.sessions (history_of s n D) (history_of s n (Open p k ∷ D)) p new stands.ends there.0
             (subst (λ calls. session.Stands s p limits new.end calls) (sym here) after)
             (λ q other. sym (opened_calls s n p k D q ∙ rw (nat_eq_equiv.symm p q, other) refl));
-        table = table_then above none;
+        table = table_then;
         listed = λ index client. stands.listed index client ∙ sym (listed_then index client);
-        pins = λ f. stands.pins f ∙ ap (λ items. sum_by f (map bundle items)) (sym (bundles_then above));
+        pins = λ f. stands.pins f ∙ ap (λ items. sum_by f (map bundle items)) (sym bundles_then);
         work = stands.work ∙ sym (opened_work s n p k D);
-        awaited = awaited_then uncarried;
+        awaited = awaited_then;
         calls = stands.calls;
         jobs = stands.jobs;
         right = (its, stands.right);

@@ -29,6 +29,7 @@ use Rattle.nob_model.proofs.Accepted.{act_tells}
 use Rattle.nob_model.proofs.Doing.{was_answered}
 use Rattle.nob_model.proofs.Orderly as model
 use Rattle.nob_model.proofs.Premises.{settles_sent}
+use Rattle.nob_model.proofs.Reopening.{numbers_rise}
 use Rattle.nob_space_state.specs.Parts.{State}
 use Rattle.nob_space_state.specs.Stands.{Stands}
 
@@ -75,7 +76,7 @@ orderly {s} {n} {limits} {st} {D} stands = record {
   withdrawn = model.withdrawn s n limits D stands.right;
   strangers = model.strangers s n limits D stands.right;
   settles = settles_sent s n limits D stands.right;
-  rises = ?;
+  rises = numbers_rise s n limits D stands.right;
   acts = acts_on_peers s n limits D stands.right;
 }
 
