@@ -1,7 +1,7 @@
 -- What a right answer that is no refusal tells of the history before, event by event.
-use Rattle.std.proofs.Common.{◌≡◌, ℕ, ◌+◌, ◌&&◌, ◌||◌, not, Bool, true, false, cond, List, [], ◌∷◌, length, find, Option, Some, None, Result, Ok, Err, refl, sym, ap, subst, ◌∙◌}
-use Rattle.std.specs.Prelude.{◌==◌, nat_le}
-use Rattle.std.proofs.lemmas.Bool.{eqb-true, not-false, or_parts}
+use Rattle.std.proofs.Common.{◌≡◌, ℕ, ◌+◌, ◌≤◌, ◌&&◌, ◌||◌, not, Bool, true, false, cond, List, [], ◌∷◌, length, find, Option, Some, None, Result, Ok, Err, refl, sym, ap, subst, ◌∙◌}
+use Rattle.std.specs.Prelude.{◌==◌, nat_le, nat_lt}
+use Rattle.std.proofs.lemmas.Bool.{eqb-true, not-false, or_parts, ltb-false}
 use Rattle.nob_ids.specs.Names.{is_counted}
 use Rattle.nob_ids.specs.declared.reason.Reason.{Reason}
 use Rattle.nob_ids.specs.declared.reason.Reason.TheVariants.{BadItem, Asked}
@@ -10,6 +10,7 @@ use Rattle.nob_frame.specs.declared.frame.Frame.{Frame}
 use Rattle.nob_pickle.specs.declared.value.Value.{Value}
 use Rattle.nob_item.specs.declared.item.Item.{Item}
 use Rattle.nob_item.specs.declared.item.Item.TheVariants as items
+use Rattle.nob_model_session.specs.End.{last_session}
 use Rattle.nob_model_session.specs.Right.{right_transmit, right_arrive, right_front, right_tick, right_close}
 use Rattle.nob_model_session.specs.declared.entry.Kind.TheVariants.{Limited}
 use Rattle.nob_model_session.specs.declared.entry.Ending.{Ending}
@@ -42,6 +43,7 @@ use Rattle.nob_model_history.specs.Listing.{is_any_listed}
 use Rattle.nob_model_acting.specs.Sending.{◌or_else◌, refuse_if, value_refused, send_refused, has_numbers, unless, is_gone}
 use Rattle.nob_model_acting.specs.Acting.{fault_of, act_refusal, answer_of_act, act_on}
 use Rattle.nob_model_acting.specs.Candidates.{to_settle, to_clean, to_claim}
+use Rattle.nob_model.specs.Opening.{still_held, next_number, open_refused, right_open}
 use Rattle.nob_model.specs.Right.{most_objects, last_number, greatest_hand, right_export, right_dup, right_release, calls_made, is_last_call, right_call, is_handful, answer_of_reply, answer_of_stage, answer_of_call, take_of, right_take_reply, jobs_made, job_of, claim_of, right_claim, has_ended, finish_of, right_finish, act_of, right_act, settle_count, settle_of, right_settle, clean_of, right_clean, own_ref, withdraw_refused, right_withdraw, right_frames, arrival_of, right_arrival, tick_of, right_ticks, closing_of, right_closing}
 
 -- ---- results
@@ -470,3 +472,18 @@ unfolding right_closing
 close_tells s n p reason h e =
     let peer = guard_ok (not (is_peer s n p)) refusals.NoPeer _ (answers.Closed reason) e in
     (not-false _ peer.0, close_done reason (right_close p Asked (calls_at p h)) peer.1)
+
+opened_same : (a b : ℕ) → answers.Opened a ≡ answers.Opened b → a ≡ b
+opened_same a b e = cc
+
+-- an Open that was answered: of a session with a peer that closed here, of whose objects nothing is held, and the number is the next one, a session's number
+pub open_tells : (s n p k : ℕ) (h : History) → right_open s n p h ≡ Ok (answers.Opened k) → (is_peer s n p ≡ true) × (closed p h.deeds ≡ true) × (still_held s p h ≡ false) × (next_number p h ≡ k) × (k ≤ last_session)
+unfolding right_open
+open_tells s n p k h e =
+    let told = unless_ok (open_refused s n p h) (answers.Opened (next_number p h)) (answers.Opened k) e in
+    let peer = next_none (not (is_peer s n p)) refusals.NoPeer _ told.0 in
+    let shut = next_none (not (closed p h.deeds)) refusals.StillOpen _ peer.1 in
+    let free = next_none (still_held s p h) refusals.StillHeld _ shut.1 in
+    let number : next_number p h ≡ k = opened_same (next_number p h) k told.1 in
+    let last : next_number p h ≤ last_session = ltb-false last_session (next_number p h) (test_false (nat_lt last_session (next_number p h)) refusals.Limit free.1) in
+    (not-false _ peer.0, not-false _ shut.0, free.0, number, subst (λ (m : ℕ). m ≤ last_session) number last)

@@ -3,7 +3,7 @@ use Rattle.std.proofs.Common.{◌≡◌, ℕ, suc, ◌+◌, ◌≤◌, ◌<◌, 
 use Rattle.std.specs.Prelude.{◌==◌, ◌||◌, nat_le, nat_lt, is_some}
 use Rattle.std.specs.List.{AllByRecursion, list_all}
 use Rattle.std.proofs.lemmas.List.{length_push}
-use Rattle.std.proofs.lemmas.Bool.{eqb-true, eq-eqb, and_parts, not-true, not-false, leb-true, lt-leb}
+use Rattle.std.proofs.lemmas.Bool.{eqb-true, eq-eqb, and_parts, and_from, both_ways, not-true, not-false, leb-true, le-leb, lt-leb, lt-ltb}
 use Rattle.nob_ids.specs.declared.limits.Limits.{Limits}
 use Rattle.nob_ids.specs.declared.reason.Reason.{Reason}
 use Rattle.nob_ids.specs.declared.reason.Reason.TheVariants.{PeerClosed, RetriesUsedUp, BadItem, Asked}
@@ -12,9 +12,9 @@ use Rattle.nob_frame.specs.Kinds.{is_close}
 use Rattle.nob_item.specs.Kinds.{counted_in}
 use Rattle.nob_item.specs.declared.item.Item.{Item}
 use Rattle.nob_item.specs.declared.item.Item.TheVariants as items
-use Rattle.nob_model_session.specs.End.{number, last_item, handed, is_open, unacknowledged, transmitted, is_out, ticks}
+use Rattle.nob_model_session.specs.End.{number, seen, last_session, last_item, handed, is_open, unacknowledged, transmitted, is_out, ticks}
 use Rattle.nob_model_session.specs.Right as end
-use Rattle.nob_model_session.specs.Right.{queue_limit, is_limited, right_send, right_transmit, is_of_pair, taken_by, right_arrive, right_front, right_tick, right_close}
+use Rattle.nob_model_session.specs.Right.{queue_limit, is_limited, right_send, right_transmit, is_of_pair, taken_by, right_arrive, right_front, right_tick, right_close, is_free_number, right_reopen}
 use Rattle.nob_model_session.specs.Accepting.{AllCame}
 use Rattle.nob_model_session.specs.declared.refusal.EndRefusal.{EndRefusal}
 use Rattle.nob_model_session.specs.declared.refusal.EndRefusal.TheVariants as end_refusals
@@ -35,7 +35,7 @@ use Rattle.nob_model_types.specs.declared.deed.Deed.TheVariants as did
 use Rattle.nob_model_types.specs.declared.deed.Cause.{Cause}
 use Rattle.nob_model_types.specs.declared.deed.Cause.TheVariants as causes
 use Rattle.nob_model_types.specs.declared.message.Message.{Message}
-use Rattle.nob_model_types.specs.Sessions.{is_peer, closed}
+use Rattle.nob_model_types.specs.Sessions.{is_peer, closed, number as deed_number}
 use Rattle.nob_model_types.specs.Objects.{is_live, is_exported}
 use Rattle.nob_model_types.specs.Turns.{turns, wants_dirty, is_usable}
 use Rattle.nob_model_types.specs.Messages.{is_lost_message}
@@ -48,6 +48,7 @@ use Rattle.nob_model_history.specs.Histories.{history_of}
 use Rattle.nob_model_history.specs.Ends.{kind_of, items_to, payload_of, with_sends, own_calls, call_of_closing, calls_at}
 use Rattle.nob_model_history.specs.Transit.{is_idle, by_last_dirty}
 use Rattle.nob_model_history.proofs.Inbox.{calls_sent, sends_front, open_calls}
+use Rattle.nob_model_history.proofs.Sessions.{number_is}
 use Rattle.nob_model_acting.specs.Sending.{refusal_in, send_refused, has_numbers}
 use Rattle.nob_model_acting.specs.Acting.{new_dirties, has_numbers_among, all_have_numbers, is_too_much, message_refusal, act_refusal}
 use Rattle.nob_model.specs.Right.{right_after, settle_count}
@@ -55,6 +56,7 @@ use Rattle.nob_model.specs.Lists.{IsRightDeed, AreRightDeeds}
 use Rattle.nob_model.specs.Laws.{AreRightCalls, CallsLaw}
 use Rattle.nob_model.proofs.Doing.{was_answered}
 use Rattle.nob_model.proofs.Accepted.{found_passes, call_tells, finish_tells, act_tells, fault_tells, clean_tells, transmit_tells, arrive_tells, arrive_end_tells, tick_tells, tick_end_tells, close_tells}
+use Rattle.nob_model.proofs.Reopening.{open_closed, open_number, open_seen, open_last}
 use Rattle.nob_model.proofs.Premises.{in_turn, front_item}
 use Rattle.nob_model.proofs.Waiting.{all_weaker, all_filter, settled_message}
 
@@ -390,6 +392,20 @@ closing_right s n limits p reason causes.Asked D right =
     let told = (close_tells s n p reason (history_of s n D) (was_answered s n limits (did.Closing p reason causes.Asked) D right)).1 in
     closes_right p reason (calls_at p (history_of s n D)) (closed_up (is_open (calls_at p (history_of s n D))) (record { peer = p; reason = Asked }) told.0 told.1)
 
+reopen_step : (up free : Bool) → up ≡ false → free ≡ true → Ok tt ≡ cond up (Err end_refusals.StillOpen) (cond (not free) (Err end_refusals.Number) (Ok tt))
+reopen_step true free shut is = absurd (both_ways true shut refl)
+reopen_step false true shut is = refl
+reopen_step false false shut is = absurd (both_ways false refl is)
+
+-- the call by which a right deed opened the session with p anew is right: the end is closed, and the number is free
+opening_right : (s n : ℕ) (limits : Limits) (p k : ℕ) (D : List Deed) → IsRightDeed s n limits (did.Open p k) D → Ok tt ≡ right_reopen k (calls_at p (history_of s n D))
+opening_right s n limits p k D right =
+    let calls : List EndEntry = calls_at p (history_of s n D) in
+    let same : number calls ≡ deed_number p D = number_is s n p D in
+    let above : deed_number p D < k = open_number s n limits p k D right in
+    let free : is_free_number k calls ≡ true = and_from _ _ (and_from _ _ (lt-ltb (number calls) k (omega (arith, same, above))) (le-leb (seen calls) k (open_seen s n limits p k D right))) (le-leb k last_session (open_last s n limits p k D right)) in
+    reopen_step (is_open calls) (is_free_number k calls) (open_calls s n p D ∙ ap not (open_closed s n limits p k D right)) free
+
 -- the call that a right deed itself is, is right
 own_right : (s n : ℕ) (limits : Limits) (p : ℕ) (deed : Deed) (D : List Deed) → IsRightDeed s n limits deed D → AreRightCalls s p limits (calls_sent s n p deed D) → AreRightCalls s p limits (own_calls p deed (calls_sent s n p deed D))
 unfolding right_after gifts gifts_of
@@ -412,6 +428,9 @@ own_right s n limits p (did.Tick q) D right are =
 own_right s n limits p (did.Closing q reason cause) D right are =
     if_right s p limits (q == p) (call_of_closing p reason cause) (calls_at p (history_of s n D))
     (λ own. subst (λ (r : ℕ). end.IsRight s r limits (call_of_closing r reason cause) (calls_at r (history_of s n D))) (eqb-true q p own) (closing_right s n limits q reason cause D right)) are
+own_right s n limits p (did.Open q k) D right are =
+    if_right s p limits (q == p) (ends.Reopen k (Ok tt)) (calls_at p (history_of s n D))
+    (λ own. subst (λ (r : ℕ). Ok tt ≡ right_reopen k (calls_at r (history_of s n D))) (eqb-true q p own) (opening_right s n limits q k D right)) are
 own_right s n limits p deed D right are = are
 
 -- in a list of right deeds the calls on the end with each peer are right

@@ -45,6 +45,7 @@ WasAnswered answer (did.Closing p reason causes.Item) = answer (events.Act p) �
 WasAnswered answer (did.Closing p reason (causes.Frame frame)) = (frame.from ≡ p) × (answer (events.Arrive frame) ≡ Ok (answers.Closed reason))
 WasAnswered answer (did.Closing p reason causes.Ticks) = answer (events.Tick p) ≡ Ok (answers.Closed reason)
 WasAnswered answer (did.Closing p reason causes.Asked) = answer (events.Close p) ≡ Ok (answers.Closed reason)
+WasAnswered answer (did.Open p k) = answer (events.Open p) ≡ Ok (answers.Opened k)
 
 answered : (answer : Event → Result Answer Refusal) (event : Event) (own : Answer) (deed : Deed) → deed_of event own ≡ Some deed → answer event ≡ Ok own → WasAnswered answer deed
 answered answer events.Export (answers.Exported rep) deed e is = subst (WasAnswered answer) (some_same (did.Export rep) deed e) is
@@ -67,6 +68,7 @@ answered answer (events.Arrive frame) (answers.Closed reason) deed e is = subst 
 answered answer (events.Tick p) answers.Done deed e is = subst (WasAnswered answer) (some_same (did.Tick p) deed e) is
 answered answer (events.Tick p) (answers.Closed reason) deed e is = subst (WasAnswered answer) (some_same (did.Closing p reason causes.Ticks) deed e) is
 answered answer (events.Close p) (answers.Closed reason) deed e is = subst (WasAnswered answer) (some_same (did.Closing p reason causes.Asked) deed e) is
+answered answer (events.Open p) (answers.Opened k) deed e is = subst (WasAnswered answer) (some_same (did.Open p k) deed e) is
 answered answer _ _ deed e is = absurd (none_some deed e)
 
 by_answer : (answer : Event → Result Answer Refusal) (event : Event) (result : Result Answer Refusal) (deed : Deed) → deed_by event result ≡ Some deed → answer event ≡ result → WasAnswered answer deed

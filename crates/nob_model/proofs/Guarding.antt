@@ -42,11 +42,13 @@ use Rattle.nob_model_history.specs.Holds.{times}
 use Rattle.nob_model_history.specs.Transit.{next_sent, sent, is_settle_of, is_settled, is_some_of, is_of_present, is_pinned, bundles, pinned, pins}
 use Rattle.nob_model_history.proofs.Sending.{new_items}
 use Rattle.nob_model_history.proofs.Pinning.{bundles_more}
+use Rattle.nob_model_history.proofs.Sessions.{opens, number_kept}
 use Rattle.nob_model_history.proofs.Turning.{same_ref}
 use Rattle.nob_model_acting.specs.Sending.{◌or_else◌, refuse_if, is_gone, ref_refused, refs_refused, value_refused}
 use Rattle.nob_model.specs.Right.{own_ref}
 use Rattle.nob_model.proofs.Accepted.{call_tells, finish_tells}
 use Rattle.nob_model.proofs.Calling.{refused_none}
+use Rattle.nob_model.proofs.Reopening.{opened_each}
 use Rattle.nob_model.proofs.Waiting.{all_weaker, all_filter}
 
 -- what is live stays so by an Export
@@ -95,6 +97,10 @@ closing_unlisted : (ends before entered : Bool) → (not (ends || before) && ent
 closing_unlisted true before entered e = cc
 closing_unlisted false before entered e = e
 
+opened_listed : (b shut entered : Bool) → (not (cond b false shut) && cond b false entered) ≡ true → (not shut && entered) ≡ true
+opened_listed true shut entered e = cc
+opened_listed false shut entered e = e
+
 -- in a list of right deeds whoever is listed is listed for a live object
 pub listed_law : ListedLaw
 listed_law s n limits [] right index c listed = cc
@@ -106,6 +112,7 @@ listed_law s n limits (did.Withdraw x ∷ D) right index c listed =
     (λ same. both_ways (is_any_listed s x D) (withdrawn_unlisted s n limits x D right.0) (listed_any s x c D (subst (λ (i : ℕ). is_listed s i c D ≡ true) (sym (eqb-true x index same)) listed)))
 listed_law s n limits (did.Export rep ∷ D) right index c listed = live_stays s index rep D (listed_law s n limits D right.1 index c listed)
 listed_law s n limits (did.Closing p reason cause ∷ D) right index c listed = listed_law s n limits D right.1 index c (closing_unlisted (p == c) (closed c D) (is_entered s index c D) listed)
+listed_law s n limits (did.Open p k ∷ D) right index c listed = listed_law s n limits D right.1 index c (opened_listed (p == c) (closed c D) (is_entered s index c D) listed)
 listed_law s n limits (deed ∷ D) right index c listed = listed_law s n limits D right.1 index c listed
 
 -- ---- pins
@@ -226,9 +233,9 @@ narrow_if P false true x less more narrow rest all = rest all.1
 narrow_if P false false x less more narrow rest all = rest all
 
 -- what passes a narrower test has what all have that pass the wider one
-narrower : {A : Type 0} (P : A → Type 0) (narrow wide : A → Bool) → ((x : A) → narrow x ≡ true → wide x ≡ true) → (xs : List A) → AllByRecursion P (filter wide xs) → AllByRecursion P (filter narrow xs)
-narrower P narrow wide less [] all = tt
-narrower P narrow wide less (x ∷ xs) all = narrow_if P (narrow x) (wide x) x (filter narrow xs) (filter wide xs) (less x) (narrower P narrow wide less xs) all
+narrower : {A : Type 0} (P : A → Type 0) (narrow wide : A → Bool) (xs : List A) → AllByRecursion (λ (x : A). narrow x ≡ true → wide x ≡ true) xs → AllByRecursion P (filter wide xs) → AllByRecursion P (filter narrow xs)
+narrower P narrow wide [] less all = tt
+narrower P narrow wide (x ∷ xs) less all = narrow_if P (narrow x) (wide x) x (filter narrow xs) (filter wide xs) less.0 (narrower P narrow wide xs less.1) all
 
 all_append : {A : Type 0} (P : A → Type 0) (xs ys : List A) → AllByRecursion P xs → AllByRecursion P ys → AllByRecursion P (xs ++ ys)
 all_append P [] ys all more = more
@@ -238,18 +245,20 @@ settled_earlier : (now before : Bool) → before ≡ true → (now || before) �
 settled_earlier true before is = refl
 settled_earlier false before is = is
 
--- what was settled or closed stays so
-settled_stays : (p k : ℕ) (deed : Deed) (D : List Deed) → is_settled p k D ≡ true → is_settled p k (deed ∷ D) ≡ true
-settled_stays p k (did.Act q j) D is = settled_earlier (q == p && is_settle_of k (item_at q j D)) (is_settled p k D) is
-settled_stays p k deed D is = is
+-- what was settled or closed stays so, unless its session opens anew
+settled_stays : (p k : ℕ) (deed : Deed) (D : List Deed) → opens p deed ≡ false → is_settled p k D ≡ true → is_settled p k (deed ∷ D) ≡ true
+settled_stays p k (did.Act q j) D other is = settled_earlier (q == p && is_settle_of k (item_at q j D)) (is_settled p k D) is
+settled_stays p k (did.Open q j) D other is = ap (λ (b : Bool). cond b false (is_settled p k D)) other ∙ is
+settled_stays p k deed D other is = is
 
-closed_stays : (p : ℕ) (deed : Deed) (D : List Deed) → closed p D ≡ true → closed p (deed ∷ D) ≡ true
-closed_stays p (did.Closing q reason cause) D is = settled_earlier (q == p) (closed p D) is
-closed_stays p deed D is = is
+closed_stays : (p : ℕ) (deed : Deed) (D : List Deed) → opens p deed ≡ false → closed p D ≡ true → closed p (deed ∷ D) ≡ true
+closed_stays p (did.Closing q reason cause) D other is = settled_earlier (q == p) (closed p D) is
+closed_stays p (did.Open q k) D other is = ap (λ (b : Bool). cond b false (closed p D)) other ∙ is
+closed_stays p deed D other is = is
 
--- what is of the present session after a deed was so before
-present_earlier : (deed : Deed) (D : List Deed) (one : SentItem) → is_of_present (deed ∷ D) one ≡ true → is_of_present D one ≡ true
-present_earlier deed D one is = is
+-- what is of the present session after such a deed was so before
+present_earlier : (deed : Deed) (D : List Deed) (one : SentItem) → opens one.to deed ≡ false → is_of_present (deed ∷ D) one ≡ true → is_of_present D one ≡ true
+present_earlier deed D one other is = ap (λ (k : ℕ). one.session == k) (sym (number_kept one.to deed D other)) ∙ is
 
 pinned_step : (some present settled shut present_now settled_now shut_now : Bool) → (present_now ≡ true → present ≡ true) → (settled ≡ true → settled_now ≡ true) → (shut ≡ true → shut_now ≡ true) → (some && present_now && not settled_now && not shut_now) ≡ true → (some && present && not settled && not shut) ≡ true
 pinned_step some present settled shut present_now settled_now shut_now earlier more further is =
@@ -265,24 +274,37 @@ pinned_step some present settled shut present_now settled_now shut_now earlier m
     still true false more is = absurd (both_ways false refl (more refl))
     still true true more is = cc
 
--- what has pins after a deed had them before
-pinned_earlier : (deed : Deed) (D : List Deed) (one : SentItem) → is_pinned (deed ∷ D) one ≡ true → is_pinned D one ≡ true
-pinned_earlier deed D one is =
+-- what has pins after such a deed had them before
+pinned_kept : (deed : Deed) (D : List Deed) (one : SentItem) → opens one.to deed ≡ false → is_pinned (deed ∷ D) one ≡ true → is_pinned D one ≡ true
+pinned_kept deed D one other is =
     pinned_step (is_some_of (counted_in one.item)) (is_of_present D one) (is_settled one.to one.number D) (closed one.to D)
     (is_of_present (deed ∷ D) one) (is_settled one.to one.number (deed ∷ D)) (closed one.to (deed ∷ D))
-    (present_earlier deed D one) (settled_stays one.to one.number deed D) (closed_stays one.to deed D) is
+    (present_earlier deed D one other) (settled_stays one.to one.number deed D other) (closed_stays one.to deed D other) is
+
+-- what was sent and has pins after a deed had them before
+abbrev pub WerePinned : Deed → List Deed → List SentItem → Type 0
+WerePinned deed D sent_items = AllByRecursion (λ (one : SentItem). is_pinned (deed ∷ D) one ≡ true → is_pinned D one ≡ true) sent_items
+
+were_pinned : (deed : Deed) (D : List Deed) → ((p : ℕ) → opens p deed ≡ false) → (sent_items : List SentItem) → WerePinned deed D sent_items
+were_pinned deed D none [] = tt
+were_pinned deed D none (one ∷ sent_items) = (pinned_kept deed D one (none one.to), were_pinned deed D none sent_items)
+
+-- so it is with every right deed
+pub pinned_earlier : (s n : ℕ) (limits : Limits) (deed : Deed) (D : List Deed) → AreRightDeeds s n limits (deed ∷ D) → WerePinned deed D (sent (history_of s n D))
+pinned_earlier s n limits (did.Open p k) D right = all_weaker (λ (one : SentItem). is_pinned (did.Open p k ∷ D) one ≡ is_pinned D one) (λ (one : SentItem). is_pinned (did.Open p k ∷ D) one ≡ true → is_pinned D one ≡ true) (λ one same is. sym same ∙ is) (sent (history_of s n D)) (opened_each s n limits p k D right)
+pinned_earlier s n limits deed D right = were_pinned deed D (λ p. refl) (sent (history_of s n D))
 
 -- ---- one deed more
 
 -- the bundles by one deed more, if those before and what the deed gave are guarded
-guarded_more : (s n : ℕ) (deed : Deed) (D : List Deed) → BundlesGuarded s (deed ∷ D) (bundles (history_of s n D)) → AreGuarded s (deed ∷ D) (gifts_of s n deed D (work s n D)) → BundlesGuarded s (deed ∷ D) (bundles (history_of s n (deed ∷ D)))
+guarded_more : (s n : ℕ) (deed : Deed) (D : List Deed) → WerePinned deed D (sent (history_of s n D)) → BundlesGuarded s (deed ∷ D) (bundles (history_of s n D)) → AreGuarded s (deed ∷ D) (gifts_of s n deed D (work s n D)) → BundlesGuarded s (deed ∷ D) (bundles (history_of s n (deed ∷ D)))
 unfolding gifts
-guarded_more s n deed D before new =
+guarded_more s n deed D earlier before new =
     let P : SentItem → Type 0 = λ (one : SentItem). GuardsItem s (deed ∷ D) one.item in
     let more : List Gift = filter (λ (gift : Gift). is_peer s n gift.to) (gifts_of s n deed D (work s n D)) in
     subst (BundlesGuarded s (deed ∷ D)) (sym (bundles_more s n deed D))
     (all_append P (filter (is_pinned (deed ∷ D)) (sent (history_of s n D))) (filter (is_pinned (deed ∷ D)) (new_items D (sent (history_of s n D)) more))
-    (narrower P (is_pinned (deed ∷ D)) (is_pinned D) (pinned_earlier deed D) (sent (history_of s n D)) before)
+    (narrower P (is_pinned (deed ∷ D)) (is_pinned D) (sent (history_of s n D)) earlier before)
     (all_filter P (is_pinned (deed ∷ D)) (new_items D (sent (history_of s n D)) more) (new_guarded s (deed ∷ D) D more (sent (history_of s n D)) (all_filter (λ (gift : Gift). GuardsItem s (deed ∷ D) gift.item) (λ (gift : Gift). is_peer s n gift.to) (gifts_of s n deed D (work s n D)) new))))
 
 -- a deed leaves what is live
@@ -292,11 +314,11 @@ LeavesLive s deed D = (index : ℕ) → is_live s index D ≡ true → is_live s
 item_later : (s : ℕ) (deed : Deed) (D : List Deed) → LeavesLive s deed D → (item : Item) → GuardsItem s D item → GuardsItem s (deed ∷ D) item
 item_later s deed D leaves item are = all_weaker (IsGuarded s D) (IsGuarded s (deed ∷ D)) (λ rep is own. leaves rep.index (is own)) (counted_in item) are
 
-leaving : (s n : ℕ) (limits : Limits) (deed : Deed) (D : List Deed) → IsRightDeed s n limits deed D → LeavesLive s deed D → BundlesGuarded s D (bundles (history_of s n D)) → BundlesGuarded s (deed ∷ D) (bundles (history_of s n (deed ∷ D)))
+leaving : (s n : ℕ) (limits : Limits) (deed : Deed) (D : List Deed) → AreRightDeeds s n limits (deed ∷ D) → LeavesLive s deed D → BundlesGuarded s D (bundles (history_of s n D)) → BundlesGuarded s (deed ∷ D) (bundles (history_of s n (deed ∷ D)))
 leaving s n limits deed D right leaves before =
-    guarded_more s n deed D
+    guarded_more s n deed D (pinned_earlier s n limits deed D right)
     (all_weaker (λ (one : SentItem). GuardsItem s D one.item) (λ (one : SentItem). GuardsItem s (deed ∷ D) one.item) (λ one are. item_later s deed D leaves one.item are) (bundles (history_of s n D)) before)
-    (all_weaker (λ (gift : Gift). GuardsItem s D gift.item) (λ (gift : Gift). GuardsItem s (deed ∷ D) gift.item) (λ gift are. item_later s deed D leaves gift.item are) (gifts_of s n deed D (work s n D)) (gifts_guarded s n limits deed D right))
+    (all_weaker (λ (gift : Gift). GuardsItem s D gift.item) (λ (gift : Gift). GuardsItem s (deed ∷ D) gift.item) (λ gift are. item_later s deed D leaves gift.item are) (gifts_of s n deed D (work s n D)) (gifts_guarded s n limits deed D right.0))
 
 all_first : {A : Type 0} (P : A → Type 0) (xs ys : List A) → AllByRecursion P (xs ++ ys) → AllByRecursion P xs
 all_first P [] ys all = tt
@@ -346,9 +368,9 @@ without_object s x D (one ∷ sent_items) unlike are = (without_refs s x D (coun
 pub bundles_guarded : (s n : ℕ) (limits : Limits) (D : List Deed) → AreRightDeeds s n limits D → BundlesGuarded s D (bundles (history_of s n D))
 unfolding gifts_of
 bundles_guarded s n limits [] right = tt
-bundles_guarded s n limits (did.Withdraw x ∷ D) right = guarded_more s n (did.Withdraw x) D (without_object s x D (bundles (history_of s n D)) (withdrawn_unpinned s n limits x D right.0) (bundles_guarded s n limits D right.1)) tt
-bundles_guarded s n limits (did.Export rep ∷ D) right = leaving s n limits (did.Export rep) D right.0 (λ index alive. live_stays s index rep D alive) (bundles_guarded s n limits D right.1)
-bundles_guarded s n limits (deed ∷ D) right = leaving s n limits deed D right.0 (λ index alive. alive) (bundles_guarded s n limits D right.1)
+bundles_guarded s n limits (did.Withdraw x ∷ D) right = guarded_more s n (did.Withdraw x) D (pinned_earlier s n limits (did.Withdraw x) D right) (without_object s x D (bundles (history_of s n D)) (withdrawn_unpinned s n limits x D right.0) (bundles_guarded s n limits D right.1)) tt
+bundles_guarded s n limits (did.Export rep ∷ D) right = leaving s n limits (did.Export rep) D right (λ index alive. live_stays s index rep D alive) (bundles_guarded s n limits D right.1)
+bundles_guarded s n limits (deed ∷ D) right = leaving s n limits deed D right (λ index alive. alive) (bundles_guarded s n limits D right.1)
 
 found_step : (s index : ℕ) (D : List Deed) (rep : WireRep) (b : Bool) (same : List WireRep) → is_same (own_ref s index) rep ≡ b → IsGuarded s D rep → ((length same == 0) ≡ false → is_live s index D ≡ true) → (length (cond b (rep ∷ same) same) == 0) ≡ false → is_live s index D ≡ true
 found_step s index D rep true same is guarded rest some = subst (λ (r : WireRep). is_live s r.index D ≡ true) (sym (same_ref (own_ref s index) rep is)) (guarded (subst (λ (r : WireRep). is_own s r ≡ true) (same_ref (own_ref s index) rep is) (eq-eqb s s refl)))

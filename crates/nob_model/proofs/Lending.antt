@@ -18,7 +18,7 @@ use Rattle.nob_model_session.specs.declared.entry.EndEntry.{EndEntry}
 use Rattle.nob_model_session.specs.declared.entry.EndEntry.TheVariants as ends
 use Rattle.nob_model_types.specs.declared.answer.Job.{Job}
 use Rattle.nob_model_types.specs.declared.deed.Deed.{Deed}
-use Rattle.nob_model_types.specs.declared.deed.Deed.TheVariants.{Call, TakeReply, TakeEnd, Claim, Finish, DropReply, Act, Settle, Clean, Transmit, Arrive, Tick, Closing}
+use Rattle.nob_model_types.specs.declared.deed.Deed.TheVariants.{Call, TakeReply, TakeEnd, Claim, Finish, DropReply, Act, Settle, Clean, Transmit, Arrive, Tick, Closing, Open}
 use Rattle.nob_model_types.specs.declared.deed.Cause.{Cause}
 use Rattle.nob_model_types.specs.declared.deed.Cause.TheVariants as causes
 use Rattle.nob_model_types.specs.declared.turns.OwnerAnswer.{OwnerAnswer}
@@ -29,7 +29,7 @@ use Rattle.nob_model_types.specs.declared.message.Loan.TheVariants as loans
 use Rattle.nob_model_types.specs.declared.message.RefCopy.{RefCopy}
 use Rattle.nob_model_types.specs.declared.message.Message.{Message}
 use Rattle.nob_model_types.specs.Sessions.{item_at, closed, is_peer}
-use Rattle.nob_model_types.specs.Turns.{turns, turns_after, is_own, is_usable, is_lost, is_resolved, is_granted, is_refused, is_pending, is_yes, is_no, wants_dirty, names, carries}
+use Rattle.nob_model_types.specs.Turns.{no_turns, turns, turns_after, is_own, is_usable, is_lost, is_resolved, is_granted, is_refused, is_pending, is_yes, is_no, wants_dirty, names, carries}
 use Rattle.nob_model_types.specs.Messages.{new_message, new_copy, loan_after, copy_after, message_after, is_of, is_not_from, is_job, is_lost_message}
 use Rattle.nob_model_work.specs.declared.work.Outstanding.{Outstanding}
 use Rattle.nob_model_work.specs.declared.work.OwnCall.{OwnCall}
@@ -38,6 +38,7 @@ use Rattle.nob_model_work.specs.Work.{wait, make_ready, make_reply, with_calls, 
 use Rattle.nob_model_work.specs.Gifts.{gifts}
 use Rattle.nob_model_history.specs.Histories.{history_of}
 use Rattle.nob_model_history.specs.Ends.{calls_at, own_calls, with_sends, items_to, call_of_closing}
+use Rattle.nob_model_history.proofs.Sessions.{opens}
 use Rattle.nob_model_history.proofs.Turning.{same_ref, wanted_none}
 use Rattle.nob_model_history.specs.Premises.{TookTurns, AnswersPending}
 use Rattle.nob_model_acting.specs.Candidates.{is_all_resolved, to_settle}
@@ -47,7 +48,9 @@ use Rattle.nob_model.proofs.Accepted.{act_tells, settle_tells, found_passes}
 use Rattle.nob_model.proofs.Carrying.{all_push, all_filter, all_without, all_found, all_mapped}
 use Rattle.nob_model.proofs.Doing.{was_answered}
 use Rattle.nob_model.proofs.Made.{work_fixed}
+use Rattle.nob_model.proofs.Reopening.{open_other, open_uncarried}
 use Rattle.nob_model.proofs.Premises.{took_turns}
+use Rattle.nob_model.proofs.Waiting.{IsOpenIn, are_waiting}
 
 nothing : {A : Type 0} (x : A) → None ≡ Some x → ⊥
 nothing x e = cc
@@ -67,10 +70,11 @@ named_ref rep p index named =
 differ : {b : Bool} → b ≡ true → b ≡ false → ⊥
 differ is isnt = (let clash : true ≡ false = sym is ∙ isnt in absurd (cc))
 
--- a closed session stays closed
-closed_stays : (p : ℕ) (deed : Deed) (D : List Deed) → closed p D ≡ true → closed p (deed ∷ D) ≡ true
-closed_stays p (Closing q reason cause) D is = or_right (q == p) (closed p D) is
-closed_stays p (deed) D is = is
+-- a closed session stays closed, unless it opens anew
+closed_stays : (p : ℕ) (deed : Deed) (D : List Deed) → opens p deed ≡ false → closed p D ≡ true → closed p (deed ∷ D) ≡ true
+closed_stays p (Closing q reason cause) D other is = or_right (q == p) (closed p D) is
+closed_stays p (Open q k) D other is = ap (λ (b : Bool). cond b false (closed p D)) other ∙ is
+closed_stays p (deed) D other is = is
 
 -- what is refused is neither pending nor granted
 refused_not_pending : (t : Turns) → is_refused t ≡ true → is_pending t ≡ true → ⊥
@@ -109,10 +113,11 @@ refused_turned s n p rep (Some (items.Settle item)) D answers is = is
 refused_turned s n p rep (Some (items.Dirty index)) D answers is = is
 refused_turned s n p rep (Some (items.Clean index)) D answers is = is
 
-refused_stays : (s n : ℕ) (rep : WireRep) (deed : Deed) (D : List Deed) → TookTurns s n (deed ∷ D) → is_refused (turns s n rep D) ≡ true → is_refused (turns s n rep (deed ∷ D)) ≡ true
-refused_stays s n rep (Act p k) D took is = refused_turned s n p rep (item_at p k D) D took.0 is
-refused_stays s n rep (Clean other) D took is = not_turned (is_same rep other) (turns s n rep D) _ (λ same. refused_not_granted (turns s n rep D) is (subst (λ (r : WireRep). is_granted (turns s n r D) ≡ true) (sym (same_ref rep other same)) took.0)) is
-refused_stays s n rep (deed) D took is = is
+refused_stays : (s n : ℕ) (rep : WireRep) (deed : Deed) (D : List Deed) → TookTurns s n (deed ∷ D) → opens rep.owner deed ≡ false → is_refused (turns s n rep D) ≡ true → is_refused (turns s n rep (deed ∷ D)) ≡ true
+refused_stays s n rep (Act p k) D took other is = refused_turned s n p rep (item_at p k D) D took.0 is
+refused_stays s n rep (Clean other) D took same_session is = not_turned (is_same rep other) (turns s n rep D) _ (λ same. refused_not_granted (turns s n rep D) is (subst (λ (r : WireRep). is_granted (turns s n r D) ≡ true) (sym (same_ref rep other same)) took.0)) is
+refused_stays s n rep (Open q k) D took other is = ap (λ (b : Bool). is_refused (cond b no_turns (turns s n rep D))) other ∙ is
+refused_stays s n rep (deed) D took other is = is
 
 lost_by : (own peer closed refused closed_then refused_then : Bool) → (closed ≡ true → closed_then ≡ true) → (refused ≡ true → refused_then ≡ true)
     → (not own && (not peer || closed || refused)) ≡ true → (not own && (not peer || closed_then || refused_then)) ≡ true
@@ -121,11 +126,11 @@ lost_by false false closed refused closed_then refused_then f g is = is
 lost_by false true true refused closed_then refused_then f g is = or_left closed_then refused_then (f refl)
 lost_by false true false refused closed_then refused_then f g is = or_right closed_then refused_then (g is)
 
--- a lost reference stays lost
-pub lost_stays : (s n : ℕ) (rep : WireRep) (deed : Deed) (D : List Deed) → TookTurns s n (deed ∷ D) → is_lost s n rep D ≡ true → is_lost s n rep (deed ∷ D) ≡ true
-lost_stays s n rep deed D took is =
+-- a lost reference stays lost, unless the session with its owner opens anew
+pub lost_stays : (s n : ℕ) (rep : WireRep) (deed : Deed) (D : List Deed) → TookTurns s n (deed ∷ D) → opens rep.owner deed ≡ false → is_lost s n rep D ≡ true → is_lost s n rep (deed ∷ D) ≡ true
+lost_stays s n rep deed D took other is =
     lost_by (is_own s rep) (is_peer s n rep.owner) (closed rep.owner D) (is_refused (turns s n rep D)) (closed rep.owner (deed ∷ D)) (is_refused (turns s n rep (deed ∷ D)))
-    (closed_stays rep.owner deed D) (refused_stays s n rep deed D took) is
+    (closed_stays rep.owner deed D other) (refused_stays s n rep deed D took other) is
 
 -- ---- numbers
 
@@ -138,22 +143,23 @@ abbrev takes_of : ℕ → Deed → ℕ
 takes_of p (Act q k) = if q == p then 1 else 0
 takes_of p (_) = 0
 
-takes_own : (p : ℕ) (deed : Deed) (calls : List EndEntry) → takes (own_calls p deed calls) ≡ takes calls + takes_of p deed
-takes_own p (Act q k) calls = elim (q == p) as (λ b. takes (if b then ends.Take ∷ calls else calls) ≡ takes calls + (if b then 1 else 0)) [ true ↦ refl | false ↦ omega arith ]
-takes_own p (Transmit q frames) calls = elim (q == p) as (λ b. takes (if b then ends.Transmit frames ∷ calls else calls) ≡ takes calls + 0) [ true ↦ omega arith | false ↦ omega arith ]
-takes_own p (Arrive frame count) calls = elim (frame.from == p) as (λ b. takes (if b then ends.Arrive frame (Ok (arrived.Took count)) ∷ calls else calls) ≡ takes calls + 0) [ true ↦ omega arith | false ↦ omega arith ]
-takes_own p (Tick q) calls = elim (q == p) as (λ b. takes (if b then ends.Tick (Ok None) ∷ calls else calls) ≡ takes calls + 0) [ true ↦ omega arith | false ↦ omega arith ]
-takes_own p (Closing q reason cause) calls = elim (q == p) as (λ b. takes (if b then call_of_closing p reason cause ∷ calls else calls) ≡ takes calls + 0) [ true ↦ takes_closing cause | false ↦ omega arith ]
+takes_own : (p : ℕ) (deed : Deed) (calls : List EndEntry) → opens p deed ≡ false → takes (own_calls p deed calls) ≡ takes calls + takes_of p deed
+takes_own p (Act q k) calls other = elim (q == p) as (λ b. takes (if b then ends.Take ∷ calls else calls) ≡ takes calls + (if b then 1 else 0)) [ true ↦ refl | false ↦ omega arith ]
+takes_own p (Transmit q frames) calls other = elim (q == p) as (λ b. takes (if b then ends.Transmit frames ∷ calls else calls) ≡ takes calls + 0) [ true ↦ omega arith | false ↦ omega arith ]
+takes_own p (Arrive frame count) calls other = elim (frame.from == p) as (λ b. takes (if b then ends.Arrive frame (Ok (arrived.Took count)) ∷ calls else calls) ≡ takes calls + 0) [ true ↦ omega arith | false ↦ omega arith ]
+takes_own p (Tick q) calls other = elim (q == p) as (λ b. takes (if b then ends.Tick (Ok None) ∷ calls else calls) ≡ takes calls + 0) [ true ↦ omega arith | false ↦ omega arith ]
+takes_own p (Closing q reason cause) calls other = elim (q == p) as (λ b. takes (if b then call_of_closing p reason cause ∷ calls else calls) ≡ takes calls + 0) [ true ↦ takes_closing cause | false ↦ omega arith ]
   where
     takes_closing : (cause : Cause) → takes (call_of_closing p reason cause ∷ calls) ≡ takes calls + 0
     takes_closing causes.Item = omega arith
     takes_closing (causes.Frame frame) = omega arith
     takes_closing causes.Ticks = omega arith
     takes_closing causes.Asked = omega arith
-takes_own p (deed) calls = omega arith
+takes_own p (Open q k) calls other = let same : takes (cond (q == p) (ends.Reopen k (Ok tt) ∷ calls) calls) ≡ takes calls = ap (λ (b : Bool). takes (cond b (ends.Reopen k (Ok tt) ∷ calls) calls)) other in omega (arith, same)
+takes_own p (deed) calls other = omega arith
 
-takes_more : (s n p : ℕ) (deed : Deed) (D : List Deed) → takes (calls_at p (history_of s n (deed ∷ D))) ≡ takes (calls_at p (history_of s n D)) + takes_of p deed
-takes_more s n p deed D = takes_own p deed (with_sends (items_to p (gifts s n deed D (work s n D))) (calls_at p (history_of s n D))) ∙ ap (λ j. j + takes_of p deed) (takes_sends (items_to p (gifts s n deed D (work s n D))) (calls_at p (history_of s n D)))
+takes_more : (s n p : ℕ) (deed : Deed) (D : List Deed) → opens p deed ≡ false → takes (calls_at p (history_of s n (deed ∷ D))) ≡ takes (calls_at p (history_of s n D)) + takes_of p deed
+takes_more s n p deed D other = takes_own p deed (with_sends (items_to p (gifts s n deed D (work s n D))) (calls_at p (history_of s n D))) other ∙ ap (λ j. j + takes_of p deed) (takes_sends (items_to p (gifts s n deed D (work s n D))) (calls_at p (history_of s n D)))
 
 -- the front of an inbox has the next number
 front_number : (calls : List EndEntry) (k : ℕ) (payload : List ℕ) → right_front calls ≡ Some (k, payload) → k ≡ takes calls + 1
@@ -177,11 +183,32 @@ record AreNumbered (s n : ℕ) (D : List Deed) (ms : List Message) : Type 0 wher
   apart : AreApart ms
   taken : AllByRecursion (IsTaken s n D) ms
 
+-- a deed opens no session of a message anew: neither the one in which it came nor one with the owner of a reference that it carries
+abbrev pub IsUnopened : Deed → Message → Type 0
+IsUnopened deed m = (opens m.from deed ≡ false) × AllByRecursion (λ (copy : RefCopy). opens copy.rep.owner deed ≡ false) m.copies
+
+opens_none : (deed : Deed) → ((p : ℕ) → opens p deed ≡ false) → (ms : List Message) → AllByRecursion (IsUnopened deed) ms
+opens_none deed none [] = tt
+opens_none deed none (m ∷ ms) = ((none m.from, copies m.copies), opens_none deed none ms)
+  where
+    copies : (cs : List RefCopy) → AllByRecursion (λ (copy : RefCopy). opens copy.rep.owner deed ≡ false) cs
+    copies [] = tt
+    copies (copy ∷ cs) = (none copy.rep.owner, copies cs)
+
+opens_others : (s n : ℕ) (limits : Limits) (p k : ℕ) (D : List Deed) → IsRightDeed s n limits (Open p k) D → (ms : List Message) → AllByRecursion (IsOpenIn s n D) ms → AllByRecursion (λ (m : Message). AllByRecursion (λ (copy : RefCopy). (p == copy.rep.owner) ≡ false) m.copies) ms → AllByRecursion (IsUnopened (Open p k)) ms
+opens_others s n limits p k D right [] up others = tt
+opens_others s n limits p k D right (m ∷ ms) up others = ((open_other s n limits p k D right m.from up.0.0, others.0), opens_others s n limits p k D right ms up.1 others.1)
+
+-- a right deed opens no session of a message that waits
+pub waiting_unopened : (s n : ℕ) (limits : Limits) (deed : Deed) (D : List Deed) → AreRightDeeds s n limits (deed ∷ D) → AllByRecursion (IsUnopened deed) (work s n D).waiting
+waiting_unopened s n limits (Open p k) D right = opens_others s n limits p k D right.0 (work s n D).waiting (are_waiting s n limits D right.1).0 (open_uncarried s n limits p k D right.0)
+waiting_unopened s n limits (deed) D right = opens_none (deed) (λ p. refl) (work s n D).waiting
+
 -- a message is still of an item that was taken once more is done
-still_taken : (s n : ℕ) (deed : Deed) (D : List Deed) (ms : List Message) → AllByRecursion (IsTaken s n D) ms → AllByRecursion (IsTaken s n (deed ∷ D)) ms
-still_taken s n deed D [] all = tt
-still_taken s n deed D (m ∷ ms) all =
-    ((let more : takes (calls_at m.from (history_of s n (deed ∷ D))) ≡ takes (calls_at m.from (history_of s n D)) + takes_of m.from deed = takes_more s n m.from deed D in let low : m.number ≤ takes (calls_at m.from (history_of s n D)) = all.0 in omega (arith, more, low)), still_taken s n deed D ms all.1)
+still_taken : (s n : ℕ) (deed : Deed) (D : List Deed) (ms : List Message) → AllByRecursion (IsUnopened deed) ms → AllByRecursion (IsTaken s n D) ms → AllByRecursion (IsTaken s n (deed ∷ D)) ms
+still_taken s n deed D [] others all = tt
+still_taken s n deed D (m ∷ ms) others all =
+    ((let more : takes (calls_at m.from (history_of s n (deed ∷ D))) ≡ takes (calls_at m.from (history_of s n D)) + takes_of m.from deed = takes_more s n m.from deed D others.0.0 in let low : m.number ≤ takes (calls_at m.from (history_of s n D)) = all.0 in omega (arith, more, low)), still_taken s n deed D ms others.1 all.1)
 
 -- lists with fewer messages, and with loans made
 apart_filter : (test : Message → Bool) (ms : List Message) → AreApart ms → AreApart (filter test ms)
@@ -260,13 +287,13 @@ never_kept s n D m all = copies m.copies all
     copies [] its = tt
     copies (copy ∷ cs) its = ((λ e. its.0 (was_never (is_own s copy.rep || is_usable s n copy.rep D) copy.loan e)), copies cs its.1)
 
-still_never : (s n : ℕ) (deed : Deed) (D : List Deed) → TookTurns s n (deed ∷ D) → (ms : List Message) → AllByRecursion (NeverLost s n D) ms → AllByRecursion (NeverLost s n (deed ∷ D)) ms
-still_never s n deed D took [] all = tt
-still_never s n deed D took (m ∷ ms) all = (copies m.copies all.0, still_never s n deed D took ms all.1)
+still_never : (s n : ℕ) (deed : Deed) (D : List Deed) → TookTurns s n (deed ∷ D) → (ms : List Message) → AllByRecursion (IsUnopened deed) ms → AllByRecursion (NeverLost s n D) ms → AllByRecursion (NeverLost s n (deed ∷ D)) ms
+still_never s n deed D took [] others all = tt
+still_never s n deed D took (m ∷ ms) others all = (copies m.copies others.0.1 all.0, still_never s n deed D took ms others.1 all.1)
   where
-    copies : (cs : List RefCopy) → AllByRecursion (λ (copy : RefCopy). copy.loan ≡ loans.Never → is_lost s n copy.rep D ≡ true) cs → AllByRecursion (λ (copy : RefCopy). copy.loan ≡ loans.Never → is_lost s n copy.rep (deed ∷ D) ≡ true) cs
-    copies [] its = tt
-    copies (copy ∷ cs) its = ((λ e. lost_stays s n copy.rep deed D took (its.0 e)), copies cs its.1)
+    copies : (cs : List RefCopy) → AllByRecursion (λ (copy : RefCopy). opens copy.rep.owner deed ≡ false) cs → AllByRecursion (λ (copy : RefCopy). copy.loan ≡ loans.Never → is_lost s n copy.rep D ≡ true) cs → AllByRecursion (λ (copy : RefCopy). copy.loan ≡ loans.Never → is_lost s n copy.rep (deed ∷ D) ≡ true) cs
+    copies [] apart its = tt
+    copies (copy ∷ cs) apart its = ((λ e. lost_stays s n copy.rep deed D took apart.0 (its.0 e)), copies cs apart.1 its.1)
 
 -- loans that are made
 lent_loans : (s n : ℕ) (D : List Deed) (W : Outstanding) → AreLent s n D W → AreLent s n D (with_loans s n D W)
@@ -352,11 +379,11 @@ module _ (s n : ℕ) (limits : Limits) (deed : Deed) (D : List Deed) (right : Ar
   took = took_turns s n limits (deed ∷ D) right
 
   -- what is outstanding has lent what it had, after the deed too
-  still_all : (W : Outstanding) → AreLent s n D W → AreLent s n (deed ∷ D) W
-  still_all W all = record {
+  still_all : AreLent s n D (work s n D) → AreLent s n (deed ∷ D) (work s n D)
+  still_all all = record {
     apart = all.apart;
-    taken = still_taken s n deed D W.waiting all.taken;
-    never = still_never s n deed D took W.waiting all.never;
+    taken = still_taken s n deed D (work s n D).waiting (waiting_unopened s n limits deed D right) all.taken;
+    never = still_never s n deed D took (work s n D).waiting (waiting_unopened s n limits deed D right) all.never;
     ready = all.ready;
     running = all.running;
     replies = all.replies;
@@ -409,7 +436,7 @@ module _ (s n p k : ℕ) (D : List Deed) (next : k ≡ takes (calls_at p (histor
   act_taken ms m from number all = all_push (IsTaken s n (Act p k ∷ D)) ms m all its
     where
       one_more : takes (calls_at p (history_of s n (Act p k ∷ D))) ≡ takes (calls_at p (history_of s n D)) + 1
-      one_more = takes_more s n p (Act p k) D ∙ ap (λ b. takes (calls_at p (history_of s n D)) + (if b then 1 else 0)) (nat_eq_equiv.refl p)
+      one_more = takes_more s n p (Act p k) D refl ∙ ap (λ b. takes (calls_at p (history_of s n D)) + (if b then 1 else 0)) (nat_eq_equiv.refl p)
 
       its : IsTaken s n (Act p k ∷ D) m
       its = subst (λ q. m.number ≤ takes (calls_at q (history_of s n (Act p k ∷ D)))) (sym from) (let more = one_more in omega (arith, more, number, next))
@@ -479,24 +506,24 @@ module _ (s n : ℕ) (limits : Limits) where
       let never : NeverLost s n D m = all_found (NeverLost s n D) (is_of p k) W.waiting m taken.1 all.never in
       let fixed : map (λ copy. copy_after s n D copy) m.copies ≡ m.copies = copies_fixed s n D m (all_found (λ (x : Message). message_after s n D x ≡ x) (is_of p k) W.waiting m taken.1 (work_fixed s n D).waiting) in
       subst (λ (found : Option Message). AreLent s n (Settle p k ∷ D) (after_settle s n p k D found W)) (sym taken.1)
-      (settlement_lent s n (Settle p k ∷ D) m m.item (is_lost_message s n D m) (without_waiting p k W) (λ kept. settled_lent s n D m.copies taken.2 kept fixed never) (without_lent s n (Settle p k ∷ D) p k W (still_all s n limits (Settle p k) D right W all)))
+      (settlement_lent s n (Settle p k ∷ D) m m.item (is_lost_message s n D m) (without_waiting p k W) (λ kept. settled_lent s n D m.copies taken.2 kept fixed never) (without_lent s n (Settle p k ∷ D) p k W (still_all s n limits (Settle p k) D right all)))
 
   deed_lent : (deed : Deed) (D : List Deed) → AreRightDeeds s n limits (deed ∷ D) → AreLent s n D (work s n D) → AreLent s n (deed ∷ D) (work_after s n deed D (work s n D))
   unfolding work_after after_call after_take after_end after_finish after_close
-  deed_lent (Call target method value call) D right all = (let still = still_all s n limits (Call target method value call) D right (work s n D) all in record { apart = still.apart; taken = still.taken; never = still.never; ready = still.ready; running = still.running; replies = still.replies })
+  deed_lent (Call target method value call) D right all = (let still = still_all s n limits (Call target method value call) D right all in record { apart = still.apart; taken = still.taken; never = still.never; ready = still.ready; running = still.running; replies = still.replies })
   deed_lent (TakeReply call status value) D right all =
-      let still = filter_lent s n (TakeReply call status value ∷ D) (is_not_reply call) (work s n D) (still_all s n limits (TakeReply call status value) D right (work s n D) all) in
+      let still = filter_lent s n (TakeReply call status value ∷ D) (is_not_reply call) (work s n D) (still_all s n limits (TakeReply call status value) D right all) in
       record { apart = still.apart; taken = still.taken; never = still.never; ready = still.ready; running = still.running; replies = all_filter IsAllLent (is_not_reply call) (work s n D).replies still.replies }
-  deed_lent (TakeEnd call) D right all = (let still = still_all s n limits (TakeEnd call) D right (work s n D) all in record { apart = still.apart; taken = still.taken; never = still.never; ready = still.ready; running = still.running; replies = still.replies })
-  deed_lent (Claim job) D right all = claim_lent s n (Claim job ∷ D) job (find (is_job job) (work s n D).ready) (work s n D) refl (still_all s n limits (Claim job) D right (work s n D) all)
-  deed_lent (Finish job outcome) D right all = runs_lent s n (Finish job outcome ∷ D) (λ run. not (is_run job run)) (work s n D) (still_all s n limits (Finish job outcome) D right (work s n D) all)
-  deed_lent (DropReply job) D right all = runs_lent s n (DropReply job ∷ D) (λ run. not (is_run job run)) (work s n D) (still_all s n limits (DropReply job) D right (work s n D) all)
-  deed_lent (Act p k) D right all = act_lent s n p k D (act_next p k D right.0) (item_at p k D) (work s n D) all (still_all s n limits (Act p k) D right (work s n D) all)
+  deed_lent (TakeEnd call) D right all = (let still = still_all s n limits (TakeEnd call) D right all in record { apart = still.apart; taken = still.taken; never = still.never; ready = still.ready; running = still.running; replies = still.replies })
+  deed_lent (Claim job) D right all = claim_lent s n (Claim job ∷ D) job (find (is_job job) (work s n D).ready) (work s n D) refl (still_all s n limits (Claim job) D right all)
+  deed_lent (Finish job outcome) D right all = runs_lent s n (Finish job outcome ∷ D) (λ run. not (is_run job run)) (work s n D) (still_all s n limits (Finish job outcome) D right all)
+  deed_lent (DropReply job) D right all = runs_lent s n (DropReply job ∷ D) (λ run. not (is_run job run)) (work s n D) (still_all s n limits (DropReply job) D right all)
+  deed_lent (Act p k) D right all = act_lent s n p k D (act_next p k D right.0) (item_at p k D) (work s n D) all (still_all s n limits (Act p k) D right all)
   deed_lent (Settle p k) D right all = settle_lent p k D right all
   deed_lent (Closing p reason cause) D right all =
-      let still = filter_lent s n (Closing p reason cause ∷ D) (is_not_from p) (work s n D) (still_all s n limits (Closing p reason cause) D right (work s n D) all) in
+      let still = filter_lent s n (Closing p reason cause ∷ D) (is_not_from p) (work s n D) (still_all s n limits (Closing p reason cause) D right all) in
       record { apart = still.apart; taken = still.taken; never = still.never; ready = all_filter IsAllLent (is_not_from p) (work s n D).ready still.ready; running = still.running; replies = still.replies }
-  deed_lent (deed) D right all = still_all s n limits (deed) D right (work s n D) all
+  deed_lent (deed) D right all = still_all s n limits (deed) D right all
 
   -- on a list of right deeds messages that wait are apart, and what is ready has lent all its references
   pub all_lent : (D : List Deed) → AreRightDeeds s n limits D → AreLent s n D (work s n D)

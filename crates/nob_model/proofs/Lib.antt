@@ -5,6 +5,7 @@ pub mod Orderly
 pub mod Possible
 pub mod Claiming
 pub mod Made
+pub mod Reopening
 pub mod Carrying
 pub mod Replying
 pub mod Lending

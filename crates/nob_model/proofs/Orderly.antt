@@ -138,10 +138,15 @@ stranger_step : (s n p q : ℕ) (D : List Deed) → is_peer s n p ≡ false → 
 stranger_step s n p q D stranger peer before true is = absurd (both_ways (is_peer s n p) stranger (subst (λ (r : ℕ). is_peer s n r ≡ true) (eqb-true q p is) peer))
 stranger_step s n p q D stranger peer before false is = before
 
+opened_stranger : (now before : Bool) → before ≡ false → cond now false before ≡ false
+opened_stranger true before none = refl
+opened_stranger false before none = none
+
 -- no session with a space that is no peer closed
 pub strangers : (s n : ℕ) (limits : Limits) (D : List Deed) → AreRightDeeds s n limits D → (p : ℕ) → is_peer s n p ≡ false → closed p D ≡ false
 strangers s n limits [] right p stranger = refl
 strangers s n limits (did.Closing q reason cause ∷ D) right p stranger = stranger_step s n p q D stranger (closing_peer s n limits q reason cause D right.0) (strangers s n limits D right.1 p stranger) (q == p) refl
+strangers s n limits (did.Open q k ∷ D) right p stranger = opened_stranger (q == p) (closed p D) (strangers s n limits D right.1 p stranger)
 strangers s n limits (deed ∷ D) right p stranger = strangers s n limits D right.1 p stranger
 
 -- the payload of an accepted item is the one that was accepted in its turn

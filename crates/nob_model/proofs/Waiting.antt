@@ -20,6 +20,7 @@ use Rattle.nob_model_work.specs.Work.{without_first, wait, make_ready, make_repl
 use Rattle.nob_model_history.specs.Histories.{history_of}
 use Rattle.nob_model_history.specs.Ends.{calls_at}
 use Rattle.nob_model_history.proofs.Inbox.{takes_acted, takes_no_fewer, acted_takes, front_number}
+use Rattle.nob_model_history.proofs.Sessions.{opens}
 use Rattle.nob_model_acting.specs.Candidates.{is_all_resolved, to_settle}
 use Rattle.nob_model_acting.specs.Sending.{has_numbers}
 use Rattle.nob_model.specs.Right.{right_after, settle_count}
@@ -27,6 +28,7 @@ use Rattle.nob_model.specs.Lists.{IsRightDeed, AreRightDeeds}
 use Rattle.nob_model.specs.Laws.{AreFrom, ActedLaw}
 use Rattle.nob_model.proofs.Doing.{was_answered}
 use Rattle.nob_model.proofs.Accepted.{act_tells, settle_tells}
+use Rattle.nob_model.proofs.Reopening.{open_other}
 
 -- ---- items are acted on in turn
 
@@ -48,12 +50,17 @@ acted_step : (b : Bool) (pairs : List (ℕ × Option Item)) (pair : ℕ × Optio
 acted_step true pairs pair are next = push_from 1 pairs pair are (let is = next refl in omega (arith, is))
 acted_step false pairs pair are next = are
 
+begun_anew : (b : Bool) (pairs : List (ℕ × Option Item)) → AreFrom 1 pairs → AreFrom 1 (cond b [] pairs)
+begun_anew true pairs are = tt
+begun_anew false pairs are = are
+
 -- the items from a peer that were acted on have the numbers 1, 2, .. in order
 pub acted_law : ActedLaw
 acted_law s n limits [] right p = tt
 acted_law s n limits (did.Act q k ∷ D) right p =
     acted_step (q == p) (acted p D) (k, item_at p k D) (acted_law s n limits D right.1 p)
     (λ own. subst (λ (r : ℕ). k ≡ takes (calls_at r (history_of s n D)) + 1) (eqb-true q p own) (act_number s n limits q k D right.0) ∙ ap (λ (m : ℕ). m + 1) (sym (acted_takes s n p D)))
+acted_law s n limits (did.Open q k ∷ D) right p = begun_anew (q == p) (acted p D) (acted_law s n limits D right.1 p)
 acted_law s n limits (deed ∷ D) right p = acted_law s n limits D right.1 p
 
 -- ---- messages that differ
@@ -140,17 +147,26 @@ loans_apart s n D (message ∷ messages) are = (loans_other s n D message.from m
 
 -- ---- one deed more
 
--- a deed that closes no session leaves what came on open sessions
-open_later : (s n : ℕ) (deed : Deed) (D : List Deed) → ((p : ℕ) → closed p (deed ∷ D) ≡ closed p D) → (messages : List Message) → AreWaiting s n D messages → AreWaiting s n (deed ∷ D) messages
-open_later s n deed D same messages are = (
-  all_weaker (IsOpenIn s n D) (IsOpenIn s n (deed ∷ D)) (λ message is. (same message.from ∙ is.0, let most = is.1 in let more = takes_no_fewer s n message.from deed D in omega (arith, most, more))) messages are.0,
+-- a deed that closes and opens no session leaves what came on open sessions
+open_later : (s n : ℕ) (deed : Deed) (D : List Deed) → ((p : ℕ) → opens p deed ≡ false) → ((p : ℕ) → closed p (deed ∷ D) ≡ closed p D) → (messages : List Message) → AreWaiting s n D messages → AreWaiting s n (deed ∷ D) messages
+open_later s n deed D none same messages are = (
+  all_weaker (IsOpenIn s n D) (IsOpenIn s n (deed ∷ D)) (λ message is. (same message.from ∙ is.0, let most = is.1 in let more = takes_no_fewer s n message.from deed D (none message.from) in omega (arith, most, more))) messages are.0,
   are.1,
 )
+
+-- a right Open is of another session than what came on open ones
+opened_step : (s n : ℕ) (limits : Limits) (p k : ℕ) (D : List Deed) → IsRightDeed s n limits (did.Open p k) D → (message : Message) → IsOpenIn s n D message → IsOpenIn s n (did.Open p k ∷ D) message
+opened_step s n limits p k D right message is =
+    let other : (p == message.from) ≡ false = open_other s n limits p k D right message.from is.0 in
+    (ap (λ (b : Bool). cond b false (closed message.from D)) other ∙ is.0, let most = is.1 in let more = takes_no_fewer s n message.from (did.Open p k) D other in omega (arith, most, more))
+
+opened_waits : (s n : ℕ) (limits : Limits) (p k : ℕ) (D : List Deed) → IsRightDeed s n limits (did.Open p k) D → (messages : List Message) → AreWaiting s n D messages → AreWaiting s n (did.Open p k ∷ D) messages
+opened_waits s n limits p k D right messages are = (all_weaker (IsOpenIn s n D) (IsOpenIn s n (did.Open p k ∷ D)) (opened_step s n limits p k D right) messages are.0, are.1)
 
 closing_step : (s n p : ℕ) (reason : Reason) (cause : Cause) (D : List Deed) (message : Message) → is_not_from p message ≡ true → IsOpenIn s n D message → IsOpenIn s n (did.Closing p reason cause ∷ D) message
 closing_step s n p reason cause D message other is = (
   or_from (p == message.from) (closed message.from D) (ne_eqb p message.from (λ same. eqb-false message.from p (not-true _ other) (sym same))) is.0,
-  let most = is.1 in let more = takes_no_fewer s n message.from (did.Closing p reason cause) D in omega (arith, most, more),
+  let most = is.1 in let more = takes_no_fewer s n message.from (did.Closing p reason cause) D refl in omega (arith, most, more),
 )
 
 kept_if : (s n p : ℕ) (reason : Reason) (cause : Cause) (D : List Deed) (b : Bool) (message : Message) (kept : List Message) → is_not_from p message ≡ b → IsOpenIn s n D message → AllByRecursion (IsOpenIn s n (did.Closing p reason cause ∷ D)) kept → AllByRecursion (IsOpenIn s n (did.Closing p reason cause ∷ D)) (cond b (message ∷ kept) kept)
@@ -180,7 +196,7 @@ taken_now false k count own is = cc
 
 with_new : (s n : ℕ) (limits : Limits) (p k : ℕ) (D : List Deed) → IsRightDeed s n limits (did.Act p k) D → (messages : List Message) → AreWaiting s n D messages → WithNew s n p k D messages
 with_new s n limits p k D right messages are message from number =
-    let later = open_later s n (did.Act p k) D (λ q. refl) messages are in
+    let later = open_later s n (did.Act p k) D (λ q. refl) (λ q. refl) messages are in
     let most : k ≤ takes (calls_at p (history_of s n (did.Act p k ∷ D))) = subst (λ (m : ℕ). k ≤ m) (sym (takes_acted s n p p k D)) (taken_now (p == p) k (takes (calls_at p (history_of s n D))) (eq-eqb p p refl) (act_number s n limits p k D right)) in
     let own : IsOpenIn s n (did.Act p k ∷ D) message = (
       ap (λ (q : ℕ). closed q D) from ∙ act_open s n limits p k D right,
@@ -237,16 +253,17 @@ claim_waits job (Some message) W = refl
 
 waiting_after : (s n : ℕ) (limits : Limits) (deed : Deed) (D : List Deed) (W : Outstanding) → IsRightDeed s n limits deed D → AreWaiting s n D W.waiting → AreWaiting s n (deed ∷ D) (work_after s n deed D W).waiting
 unfolding work_after after_call after_take after_end after_finish after_close
-waiting_after s n limits (did.Act p k) D W right are = act_waits s n p k D (item_at p k D) W (open_later s n (did.Act p k) D (λ q. refl) W.waiting are) (with_new s n limits p k D right W.waiting are)
-waiting_after s n limits (did.Settle p k) D W right are = settle_waits s n p k (did.Settle p k ∷ D) D (find (is_of p k) W.waiting) W (open_later s n (did.Settle p k) D (λ q. refl) W.waiting are)
-waiting_after s n limits (did.Claim job) D W right are = subst (AreWaiting s n (did.Claim job ∷ D)) (sym (claim_waits job (find (is_job job) W.ready) W)) (open_later s n (did.Claim job) D (λ q. refl) W.waiting are)
-waiting_after s n limits (did.TakeReply call status value) D W right are = filter_waiting s n (did.TakeReply call status value ∷ D) (is_not_reply call) W.waiting (open_later s n (did.TakeReply call status value) D (λ q. refl) W.waiting are)
+waiting_after s n limits (did.Act p k) D W right are = act_waits s n p k D (item_at p k D) W (open_later s n (did.Act p k) D (λ q. refl) (λ q. refl) W.waiting are) (with_new s n limits p k D right W.waiting are)
+waiting_after s n limits (did.Settle p k) D W right are = settle_waits s n p k (did.Settle p k ∷ D) D (find (is_of p k) W.waiting) W (open_later s n (did.Settle p k) D (λ q. refl) (λ q. refl) W.waiting are)
+waiting_after s n limits (did.Claim job) D W right are = subst (AreWaiting s n (did.Claim job ∷ D)) (sym (claim_waits job (find (is_job job) W.ready) W)) (open_later s n (did.Claim job) D (λ q. refl) (λ q. refl) W.waiting are)
+waiting_after s n limits (did.TakeReply call status value) D W right are = filter_waiting s n (did.TakeReply call status value ∷ D) (is_not_reply call) W.waiting (open_later s n (did.TakeReply call status value) D (λ q. refl) (λ q. refl) W.waiting are)
 waiting_after s n limits (did.Closing p reason cause) D W right are = (closing_open s n p reason cause D W.waiting are.0, apart_filter (is_not_from p) W.waiting are.1)
-waiting_after s n limits (did.Call target method value call) D W right are = open_later s n (did.Call target method value call) D (λ q. refl) W.waiting are
-waiting_after s n limits (did.TakeEnd call) D W right are = open_later s n (did.TakeEnd call) D (λ q. refl) W.waiting are
-waiting_after s n limits (did.Finish job outcome) D W right are = open_later s n (did.Finish job outcome) D (λ q. refl) W.waiting are
-waiting_after s n limits (did.DropReply job) D W right are = open_later s n (did.DropReply job) D (λ q. refl) W.waiting are
-waiting_after s n limits deed D W right are = open_later s n deed D (λ q. refl) W.waiting are
+waiting_after s n limits (did.Call target method value call) D W right are = open_later s n (did.Call target method value call) D (λ q. refl) (λ q. refl) W.waiting are
+waiting_after s n limits (did.TakeEnd call) D W right are = open_later s n (did.TakeEnd call) D (λ q. refl) (λ q. refl) W.waiting are
+waiting_after s n limits (did.Finish job outcome) D W right are = open_later s n (did.Finish job outcome) D (λ q. refl) (λ q. refl) W.waiting are
+waiting_after s n limits (did.DropReply job) D W right are = open_later s n (did.DropReply job) D (λ q. refl) (λ q. refl) W.waiting are
+waiting_after s n limits (did.Open p k) D W right are = opened_waits s n limits p k D right W.waiting are
+waiting_after s n limits deed D W right are = open_later s n deed D (λ q. refl) (λ q. refl) W.waiting are
 
 -- in a list of right deeds the messages that wait came on sessions that are open here, and no two in one item
 pub are_waiting : (s n : ℕ) (limits : Limits) (D : List Deed) → AreRightDeeds s n limits D → AreWaiting s n D (work s n D).waiting

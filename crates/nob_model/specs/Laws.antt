@@ -20,7 +20,7 @@ use Rattle.nob_model_history.specs.Histories.{history_of}
 use Rattle.nob_model_history.specs.Ends.{calls_at}
 use Rattle.nob_model_history.specs.Holds.{times, hand, lent_in, holds}
 use Rattle.nob_model_history.specs.Listing.{is_listed}
-use Rattle.nob_model_history.specs.Premises.{InTurn, SettlesSent, TookTurns, ObjectsInTurn}
+use Rattle.nob_model_history.specs.Premises.{NumbersRise, InTurn, SettlesSent, TookTurns, ObjectsInTurn}
 use Rattle.nob_model_history.specs.Transit.{is_some_of, pins}
 use Rattle.nob_model.specs.Right.{own_ref, right_act, right_frames, right_settle, right_clean, right_claim, right_withdraw, right_take_reply}
 use Rattle.nob_model.specs.Lists.{AreRight, AreRightDeeds}
@@ -33,6 +33,10 @@ DeedsLaw = (s n : ℕ) (limits : Limits) (L : List Entry) → AreRight s n limit
 -- right deeds are what some right entries did
 abbrev pub EntriesLaw : Type 0
 EntriesLaw = (s n : ℕ) (limits : Limits) (D : List Deed) → AreRightDeeds s n limits D → (L : List Entry) × AreRight s n limits L × (deeds L ≡ D)
+
+-- in a list of right deeds the number of the session with each peer rises with each Open of it
+abbrev pub NumbersLaw : Type 0
+NumbersLaw = (s n : ℕ) (limits : Limits) (D : List Deed) → AreRightDeeds s n limits D → NumbersRise D
 
 -- in a list of right deeds each one accepted the next items or none
 abbrev pub TurnLaw : Type 0

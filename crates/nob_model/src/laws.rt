@@ -1,6 +1,6 @@
 //! Laws over the definitions: each is the contract of a function that does nothing.
 
-ghost use Rattle.nob_model.specs.Laws.{DeedsLaw, EntriesLaw, TurnLaw, SettledLaw, TurnsLaw, ObjectsLaw, ActedLaw, CallsLaw, ListedLaw, PinnedLaw, HoldsLaw, ActLaw, SendLaw, SettleLaw, CleanLaw, ClaimLaw, WithdrawLaw, LeastLaw, ReplyLaw};
+ghost use Rattle.nob_model.specs.Laws.{DeedsLaw, EntriesLaw, NumbersLaw, TurnLaw, SettledLaw, TurnsLaw, ObjectsLaw, ActedLaw, CallsLaw, ListedLaw, PinnedLaw, HoldsLaw, ActLaw, SendLaw, SettleLaw, CleanLaw, ClaimLaw, WithdrawLaw, LeastLaw, ReplyLaw};
 
 /// What a list of right entries did is a list of right deeds, and each list of right deeds is what
 /// some right entries did.
@@ -10,11 +10,12 @@ pub fn deeds()
     ensures back { EntriesLaw }
 {}
 
-/// In every list of right deeds items were accepted in their turn, each Settle that was acted on
-/// was of an item that was sent before, client and owner took turns, and so did Exports and
-/// Withdraws: what the laws of the crates below ask of a list.
-#[tactic(auto, using(crate::proofs::Premises::in_turn, crate::proofs::Premises::settles_sent, crate::proofs::Premises::took_turns, crate::proofs::Premises::objects_in_turn))]
+/// In every list of right deeds the numbers of sessions rise, items were accepted in their turn,
+/// each Settle that was acted on was of an item that was sent before, client and owner took turns,
+/// and so did Exports and Withdraws: what the laws of the crates below ask of a list.
+#[tactic(auto, using(crate::proofs::Reopening::numbers_rise, crate::proofs::Premises::in_turn, crate::proofs::Premises::settles_sent, crate::proofs::Premises::took_turns, crate::proofs::Premises::objects_in_turn))]
 pub fn premises()
+    ensures numbers { NumbersLaw }
     ensures accepted { TurnLaw }
     ensures settled { SettledLaw }
     ensures turns { TurnsLaw }

@@ -2,10 +2,11 @@
 use Rattle.std.proofs.Common.{◌≡◌, ℕ, ◌+◌, ◌≤◌, ◌&&◌, ◌||◌, Bool, true, false, cond, List, [], ◌∷◌, length, map, filter, Option, Some, None, refl, sym, ap, subst, ◌∙◌, arith, ◌⊎◌, inl, inr}
 use Rattle.std.specs.Prelude.{◌==◌, nat_le}
 use Rattle.std.specs.List.{AllByRecursion, flat_map}
-use Rattle.std.proofs.lemmas.Bool.{eqb-true, eqb-false, eq-eqb, and_parts, or_left, or_right, both_ways, not-true, leb-true, leb-false}
+use Rattle.std.proofs.lemmas.Bool.{eqb-true, eqb-false, eq-eqb, ne_eqb, and_parts, or_left, or_right, both_ways, not-true, leb-true, leb-false}
 use Rattle.nob_ids.specs.Names.{is_same, is_counted}
 use Rattle.nob_ids.specs.declared.limits.Limits.{Limits}
 use Rattle.nob_ids.specs.declared.wire_rep.WireRep.{WireRep}
+use Rattle.nob_item.specs.Kinds.{counted_in}
 use Rattle.nob_item.specs.declared.item.Item.{Item}
 use Rattle.nob_item.specs.declared.item.Item.TheVariants as items
 use Rattle.nob_model_types.specs.declared.deed.Deed.{Deed}
@@ -16,16 +17,18 @@ use Rattle.nob_model_types.specs.declared.message.RefCopy.{RefCopy}
 use Rattle.nob_model_types.specs.declared.message.Message.{Message}
 use Rattle.nob_model_types.specs.declared.turns.Turns.{Turns}
 use Rattle.nob_model_types.specs.Sessions.{item_at}
-use Rattle.nob_model_types.specs.Turns.{turns, turns_after, is_own, is_pending, is_granted, is_standing, wants_dirty, carries, names}
+use Rattle.nob_model_types.specs.Turns.{no_turns, turns, turns_after, is_own, is_pending, is_granted, is_standing, wants_dirty, carries, names}
 use Rattle.nob_model_work.specs.declared.work.Outstanding.{Outstanding}
 use Rattle.nob_model_work.specs.declared.work.Run.{Run}
 use Rattle.nob_model_work.specs.Work.{work}
 use Rattle.nob_model_history.specs.declared.history.History.{History}
 use Rattle.nob_model_history.specs.Histories.{history_of}
 use Rattle.nob_model_history.specs.Holds.{times, hand, is_lent, copies_lent, target_lent, loans_of, lent_in, holds, is_held}
-use Rattle.nob_model_history.specs.Transit.{pins, is_idle, by_last_dirty}
+use Rattle.nob_model_history.specs.Transit.{bundles, pinned, pins, is_idle, by_last_dirty}
+use Rattle.nob_model_history.specs.declared.transit.SentItem.{SentItem}
 use Rattle.nob_model_history.specs.Premises.{AnswersPending, TookTurns}
 use Rattle.nob_model_history.proofs.Dirtying.{same_self}
+use Rattle.nob_model_history.proofs.Sessions.{opens}
 use Rattle.nob_model_history.proofs.Turning.{same_ref, named_ref, wanted_none, pending_waits, granted_answered}
 use Rattle.nob_model.specs.Right.{right_after}
 use Rattle.nob_model.specs.Lists.{IsRightDeed, AreRightDeeds}
@@ -33,6 +36,7 @@ use Rattle.nob_model.proofs.Doing.{was_answered}
 use Rattle.nob_model.proofs.Accepted.{found_passes, clean_tells}
 use Rattle.nob_model.proofs.Orderly.{holds_law}
 use Rattle.nob_model.proofs.Carrying.{AllOutstanding}
+use Rattle.nob_model.proofs.Reopening.{counted_are, open_unheld, open_unpinned}
 use Rattle.nob_model.proofs.Waiting.{all_weaker}
 use Rattle.nob_model_holdings.proofs.Lists.{all_append, all_split}
 use Rattle.nob_model_holdings.proofs.Hands.{hand_weaker}
@@ -44,9 +48,10 @@ is_owned s n rep D = is_own s rep || is_granted (turns s n rep D)
 
 -- ---- what is granted stays granted until it is given up
 
--- whether a deed gives a reference up
+-- whether a deed gives a reference up: a Clean of it, or an Open of the session with its owner
 abbrev pub gives_up : WireRep → Deed → Bool
 gives_up rep (did.Clean other) = is_same rep other
+gives_up rep (did.Open q k) = q == rep.owner
 gives_up rep (_) = false
 
 not_turned : (b : Bool) (t after : Turns) → (b ≡ true → ⊥) → is_granted t ≡ true → is_granted (cond b after t) ≡ true
@@ -72,6 +77,7 @@ item_granted s n p rep (Some (items.Clean index)) D answers is = is
 granted_stays : (s n : ℕ) (rep : WireRep) (deed : Deed) (D : List Deed) → TookTurns s n (deed ∷ D) → gives_up rep deed ≡ false → is_granted (turns s n rep D) ≡ true → is_granted (turns s n rep (deed ∷ D)) ≡ true
 granted_stays s n rep (did.Act p k) D took kept is = item_granted s n p rep (item_at p k D) D took.0 is
 granted_stays s n rep (did.Clean other) D took kept is = not_turned (is_same rep other) (turns s n rep D) _ (λ same. both_ways (is_same rep other) kept same) is
+granted_stays s n rep (did.Open q k) D took kept is = ap (λ (b : Bool). is_granted (cond b no_turns (turns s n rep D))) kept ∙ is
 granted_stays s n rep deed D took kept is = is
 
 owned_by : (own granted later : Bool) → (granted ≡ true → later ≡ true) → (own || granted) ≡ true → (own || later) ≡ true
@@ -96,10 +102,16 @@ held_kept_by : (s n : ℕ) (limits : Limits) (rep other : WireRep) (D : List Dee
 held_kept_by s n limits rep other D right held true same = absurd (both_ways _ (clean_free s n limits other D right).0 (subst (λ (r : WireRep). is_held s r (history_of s n D) ≡ true) (same_ref rep other same) held))
 held_kept_by s n limits rep other D right held false same = refl
 
--- what is held isn't given up
-pub held_kept : (s n : ℕ) (limits : Limits) (rep : WireRep) (deed : Deed) (D : List Deed) → IsRightDeed s n limits deed D → is_held s rep (history_of s n D) ≡ true → gives_up rep deed ≡ false
-held_kept s n limits rep (did.Clean other) D right held = held_kept_by s n limits rep other D right held (is_same rep other) refl
-held_kept s n limits rep deed D right held = refl
+-- a counted reference that is held isn't given up
+pub held_kept : (s n : ℕ) (limits : Limits) (rep : WireRep) (deed : Deed) (D : List Deed) → IsRightDeed s n limits deed D → is_counted rep ≡ true → is_held s rep (history_of s n D) ≡ true → gives_up rep deed ≡ false
+held_kept s n limits rep (did.Clean other) D right counted held = held_kept_by s n limits rep other D right held (is_same rep other) refl
+held_kept s n limits rep (did.Open q k) D right counted held = ne_eqb q rep.owner (λ same. both_ways (is_held s rep (history_of s n D)) (open_unheld s n limits q k D right rep (sym same) counted) held)
+held_kept s n limits rep deed D right counted held = refl
+
+-- what is given up by no deed has an owner with whom no session is opened by it
+pub kept_unopened : (rep : WireRep) (deed : Deed) → gives_up rep deed ≡ false → opens rep.owner deed ≡ false
+kept_unopened rep (did.Open q k) kept = kept
+kept_unopened rep deed kept = refl
 
 pinned_kept_by : (s n : ℕ) (limits : Limits) (rep other : WireRep) (D : List Deed) → IsRightDeed s n limits (did.Clean other) D → 1 ≤ pins rep (history_of s n D) → (b : Bool) → is_same rep other ≡ b → b ≡ false
 pinned_kept_by s n limits rep other D right some true same =
@@ -108,9 +120,20 @@ pinned_kept_by s n limits rep other D right some true same =
     absurd (omega (arith, none, here))
 pinned_kept_by s n limits rep other D right some false same = refl
 
+-- all that has pins is counted
+pub pinned_counted : (s n : ℕ) (D : List Deed) → AllByRecursion (λ (rep : WireRep). is_counted rep ≡ true) (pinned (history_of s n D))
+pinned_counted s n D = each (bundles (history_of s n D))
+  where
+    each : (sent_items : List SentItem) → AllByRecursion (λ (rep : WireRep). is_counted rep ≡ true) (flat_map (λ (one : SentItem). counted_in one.item) sent_items)
+    each [] = tt
+    each (one ∷ sent_items) = all_append (λ (rep : WireRep). is_counted rep ≡ true) (counted_in one.item) (flat_map (λ (one : SentItem). counted_in one.item) sent_items) (counted_are one.item) (each sent_items)
+
 -- what has pins isn't given up
 pub pinned_kept : (s n : ℕ) (limits : Limits) (rep : WireRep) (deed : Deed) (D : List Deed) → IsRightDeed s n limits deed D → 1 ≤ pins rep (history_of s n D) → gives_up rep deed ≡ false
 pinned_kept s n limits rep (did.Clean other) D right some = pinned_kept_by s n limits rep other D right some (is_same rep other) refl
+pinned_kept s n limits rep (did.Open q k) D right some =
+    let counted = times_some (λ r. is_counted r ≡ true) rep (pinned (history_of s n D)) (pinned_counted s n D) some in
+    ne_eqb q rep.owner (λ same. let none : pins rep (history_of s n D) ≡ 0 = open_unpinned s n limits q k D right rep (sym same) counted in omega (arith, none, some))
 pinned_kept s n limits rep deed D right some = refl
 
 -- ---- what stands in a list

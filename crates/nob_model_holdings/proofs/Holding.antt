@@ -1,12 +1,14 @@
 -- What is held came in or was exported: something holds of a reference that is held, where it holds of all that came into
 -- the hand and of all that messages lend.
-use Rattle.std.proofs.Common.{◌≡◌, ℕ, ◌+◌, ◌-◌, ◌≤◌, Bool, true, false, cond, List, [], ◌∷◌, length, map, filter, refl, sym, subst, arith, ◌⊎◌, inl, inr}
+use Rattle.std.proofs.Common.{◌≡◌, ℕ, ◌+◌, ◌-◌, ◌≤◌, Bool, true, false, cond, List, [], ◌∷◌, length, map, filter, not, refl, sym, ap, subst, arith, ◌⊎◌, inl, inr}
 use Rattle.std.specs.Prelude.{◌==◌, nat_le}
 use Rattle.std.specs.List.{AllByRecursion, flat_map}
 use Rattle.std.proofs.lemmas.Bool.{eqb-false, not-true, leb-true, leb-false}
 use Rattle.nob_ids.specs.Names.{is_same, is_counted}
 use Rattle.nob_ids.specs.declared.wire_rep.WireRep.{WireRep}
 use Rattle.nob_item.specs.Kinds.{counted_in}
+use Rattle.nob_item.specs.declared.item.Item.{Item}
+use Rattle.nob_item.specs.declared.item.Item.TheVariants as items
 use Rattle.nob_model_types.specs.declared.deed.Deed.{Deed}
 use Rattle.nob_model_types.specs.declared.message.Message.{Message}
 use Rattle.nob_model_types.specs.declared.message.RefCopy.{RefCopy}
@@ -17,6 +19,7 @@ use Rattle.nob_model_history.specs.Histories.{history_of}
 use Rattle.nob_model_history.specs.Holds.{times, gains, releases, is_lent, copies_lent, target_lent, loans_of, lent_in, is_held}
 use Rattle.nob_model_history.proofs.Turning.{same_ref}
 use Rattle.nob_model.proofs.Carrying.{AllOutstanding, Carries, all_carry}
+use Rattle.nob_model.proofs.Reopening.{counted_are}
 use Rattle.nob_model_holdings.proofs.Lists.{all_append}
 
 -- something holds of each counted reference
@@ -58,6 +61,27 @@ hand_lends s P W carry its =
     all_append P (flat_map (loans_of s) W.waiting) _ (all_lend s P W.waiting carry.waiting its.waiting)
     (all_append P (flat_map (loans_of s) W.ready) _ (all_lend s P W.ready carry.ready its.ready)
     (all_append P (flat_map (λ run. loans_of s run.message) W.running) _ (runs_lend s P W.running carry.running its.running) (all_lend s P W.replies carry.replies its.replies)))
+
+-- what holds of every message holds of all that is outstanding
+everywhere : (P : Message → Type 0) → ((m : Message) → P m) → (W : Outstanding) → AllOutstanding P W
+everywhere P each W = record { waiting = all_of P each W.waiting; ready = all_of P each W.ready; running = all_of (λ (run : Run). P run.message) (λ run. each run.message) W.running; replies = all_of P each W.replies }
+  where
+    all_of : {X : Type 0} (Q : X → Type 0) → ((x : X) → Q x) → (xs : List X) → AllByRecursion Q xs
+    all_of Q each [] = tt
+    all_of Q each (x ∷ xs) = (each x, all_of Q each xs)
+
+target_counted : (s : ℕ) (item : Item) → AllByRecursion (λ (rep : WireRep). is_counted rep ≡ true) (target_lent s item)
+target_counted s (items.Call call target method value) = elim (target == 0) as (λ (b : Bool). (target == 0) ≡ b → AllByRecursion (λ (rep : WireRep). is_counted rep ≡ true) (cond b [] (record { owner = s; index = target } ∷ []))) [ true ↦ λ e. tt | false ↦ λ e. (ap not e, tt) ] refl
+target_counted s (items.Reply call status value) = tt
+target_counted s (items.Settle item) = tt
+target_counted s (items.Dirty index) = tt
+target_counted s (items.DirtyOk index) = tt
+target_counted s (items.DirtyNo index) = tt
+target_counted s (items.Clean index) = tt
+
+-- all that is lent is counted
+pub lent_counted : (s n : ℕ) (D : List Deed) → AllByRecursion (λ (rep : WireRep). is_counted rep ≡ true) (lent_in s (work s n D))
+lent_counted s n D = hand_lends s (λ rep. is_counted rep ≡ true) (work s n D) (all_carry s n D) (everywhere (HoldsOf s (λ rep. is_counted rep ≡ true)) (λ m. (counted_are m.item, target_counted s m.item)) (work s n D))
 
 -- ---- what is held
 

@@ -43,14 +43,15 @@ use Rattle.nob_model.specs.Lists.{AreRightDeeds}
 use Rattle.nob_model.proofs.Doing.{was_answered}
 use Rattle.nob_model.proofs.Accepted.{call_tells, dup_tells, finish_tells, take_tells}
 use Rattle.nob_model.proofs.Premises.{took_turns, objects_in_turn}
+use Rattle.nob_model.proofs.Guarding.{pinned_earlier}
 use Rattle.nob_model.proofs.Orderly.{holds_law}
 use Rattle.nob_model.proofs.Lending.{IsAllLent, all_lent}
 use Rattle.nob_model.proofs.Carrying.{AllOutstanding, Carries, all_carry, all_filter, all_found}
 use Rattle.nob_model_holdings.proofs.Lists.{all_append, all_split, all_both, all_pass, all_unfilter}
 use Rattle.nob_model_holdings.proofs.Typing.{next_none, refs_held}
 use Rattle.nob_model_holdings.proofs.Hands.{New, outstanding_more, hand_both}
-use Rattle.nob_model_holdings.proofs.Holding.{OfCounted, times_some}
-use Rattle.nob_model_holdings.proofs.Granted.{is_owned, owned_stays, held_kept, pinned_kept, all_stand, all_apart, all_joined, hand_apart, copies_apart, LendsOwned, HoldsOwned, held_owned}
+use Rattle.nob_model_holdings.proofs.Holding.{OfCounted, times_some, lent_counted}
+use Rattle.nob_model_holdings.proofs.Granted.{is_owned, gives_up, owned_stays, held_kept, pinned_kept, all_stand, all_apart, all_joined, hand_apart, copies_apart, LendsOwned, HoldsOwned, held_owned}
 
 -- ---- what is held at all
 
@@ -65,15 +66,19 @@ hand_held s n limits rep D right some = let law = holds_law s n limits D right r
 pub lent_held : (s n : ℕ) (limits : Limits) (rep : WireRep) (D : List Deed) → AreRightDeeds s n limits D → 1 ≤ times rep (lent_in s (work s n D)) → is_held s rep (history_of s n D) ≡ true
 lent_held s n limits rep D right some = let law = holds_law s n limits D right rep in some_held (holds s rep (history_of s n D)) (omega (arith, law, some))
 
+-- so what is lent isn't given up
+pub lent_kept : (s n : ℕ) (limits : Limits) (rep : WireRep) (deed : Deed) (D : List Deed) → AreRightDeeds s n limits (deed ∷ D) → 1 ≤ times rep (lent_in s (work s n D)) → gives_up rep deed ≡ false
+lent_kept s n limits rep deed D right some = held_kept s n limits rep deed D right.0 (times_some (λ r. is_counted r ≡ true) rep (lent_in s (work s n D)) (lent_counted s n D) some) (lent_held s n limits rep D right.1 some)
+
 -- ---- one deed more: what is lent
 
 module _ (s n : ℕ) (limits : Limits) (deed : Deed) (D : List Deed) (right : AreRightDeeds s n limits (deed ∷ D)) where
   took : TookTurns s n (deed ∷ D)
   took = took_turns s n limits (deed ∷ D) right
 
-  -- what is held stays own or granted
-  held_stays : (rep : WireRep) → is_held s rep (history_of s n D) ≡ true → is_owned s n rep D ≡ true → is_owned s n rep (deed ∷ D) ≡ true
-  held_stays rep held is = owned_stays s n rep deed D took (held_kept s n limits rep deed D right.0 held) is
+  -- a counted reference that is held stays own or granted
+  held_stays : (rep : WireRep) → is_counted rep ≡ true → is_held s rep (history_of s n D) ≡ true → is_owned s n rep D ≡ true → is_owned s n rep (deed ∷ D) ≡ true
+  held_stays rep counted held is = owned_stays s n rep deed D took (held_kept s n limits rep deed D right.0 counted held) is
 
   -- what a message has lent stands among all that is lent
   abbrev LendsHeld : Message → Type 0
@@ -83,7 +88,7 @@ module _ (s n : ℕ) (limits : Limits) (deed : Deed) (D : List Deed) (right : Ar
   lends_still m owned held =
       let lent = copies_apart (λ rep. 1 ≤ times rep (lent_in s (work s n D))) m.copies (all_split _ (target_lent s m.item) (copies_lent m.copies) held).1 in
       all_both (λ (copy : RefCopy). copy.loan ≡ loans.Lent → is_owned s n copy.rep D ≡ true) (λ (copy : RefCopy). copy.loan ≡ loans.Lent → 1 ≤ times copy.rep (lent_in s (work s n D))) (λ (copy : RefCopy). copy.loan ≡ loans.Lent → is_owned s n copy.rep (deed ∷ D) ≡ true)
-      (λ copy its some e. held_stays copy.rep (lent_held s n limits copy.rep D right.1 (some e)) (its e)) m.copies owned lent
+      (λ copy its some e. owned_stays s n copy.rep deed D took (lent_kept s n limits copy.rep deed D right (some e)) (its e)) m.copies owned lent
 
   hand_still : HoldsOwned s n D → AllOutstanding (LendsOwned s n (deed ∷ D)) (work s n D)
   hand_still all = hand_both (LendsOwned s n D) LendsHeld (LendsOwned s n (deed ∷ D)) lends_still (work s n D) all.lent (hand_apart s _ (work s n D) (all_stand (lent_in s (work s n D))))
@@ -128,7 +133,7 @@ lent_more s n limits deed D right all = outstanding_more s n (LendsOwned s n (de
 
 -- where no more is in the hand
 hand_less : (s n : ℕ) (limits : Limits) (deed : Deed) (D : List Deed) (rep : WireRep) → AreRightDeeds s n limits (deed ∷ D) → HoldsOwned s n D → is_counted rep ≡ true → 1 ≤ hand rep D → is_owned s n rep (deed ∷ D) ≡ true
-hand_less s n limits deed D rep right all counted some = held_stays s n limits deed D right rep (hand_held s n limits rep D right.1 some) (all.in_the_hand rep counted some)
+hand_less s n limits deed D rep right all counted some = held_stays s n limits deed D right rep counted (hand_held s n limits rep D right.1 some) (all.in_the_hand rep counted some)
 
 -- one reference more came
 one_more : (s n : ℕ) (limits : Limits) (deed : Deed) (D : List Deed) (rep other : WireRep) → AreRightDeeds s n limits (deed ∷ D) → HoldsOwned s n D → is_counted rep ≡ true → (is_same rep other ≡ true → is_owned s n rep (deed ∷ D) ≡ true) → (b : Bool) → is_same rep other ≡ b → 1 ≤ length (cond b (other ∷ filter (is_same rep) (gains D)) (filter (is_same rep) (gains D))) - times rep (releases D) → is_owned s n rep (deed ∷ D) ≡ true
@@ -206,21 +211,6 @@ holds_owned s n limits (deed ∷ D) right =
 abbrev pub PinsOwned : (s n : ℕ) → List Deed → SentItem → Type 0
 PinsOwned s n D one = is_pinned D one ≡ true → AllByRecursion (λ rep. is_owned s n rep D ≡ true) (counted_in one.item)
 
-closed_before : (p : ℕ) (deed : Deed) (D : List Deed) → closed p (deed ∷ D) ≡ false → closed p D ≡ false
-closed_before p (did.Closing q reason cause) D up = (or_parts (q == p) (closed p D) up).1
-closed_before p deed D up = up
-
-settled_before : (p k : ℕ) (deed : Deed) (D : List Deed) → is_settled p k (deed ∷ D) ≡ false → is_settled p k D ≡ false
-settled_before p k (did.Act q j) D none = (or_parts _ (is_settled p k D) none).1
-settled_before p k deed D none = none
-
-pinned_before : (deed : Deed) (D : List Deed) (one : SentItem) → is_pinned (deed ∷ D) one ≡ true → is_pinned D one ≡ true
-pinned_before deed D one is =
-    let up = and_parts _ _ is in
-    let open_now = not-true _ up.1 in
-    let some = and_parts _ _ up.0 in
-    and_from _ _ (and_from _ _ some.0 (not_from_false _ (settled_before one.to one.number deed D (not-true _ some.1)))) (not_from_false _ (closed_before one.to deed D open_now))
-
 -- each pin of what was sent is counted
 pub pins_stand : (s n : ℕ) (D : List Deed) → AllByRecursion (λ one. is_pinned D one ≡ true → AllByRecursion (λ rep. 1 ≤ pins rep (history_of s n D)) (counted_in one.item)) (sent (history_of s n D))
 pins_stand s n D =
@@ -230,10 +220,13 @@ pins_stand s n D =
 -- what had pins before stays own or granted
 pins_still : (s n : ℕ) (limits : Limits) (deed : Deed) (D : List Deed) → AreRightDeeds s n limits (deed ∷ D) → AllByRecursion (PinsOwned s n D) (sent (history_of s n D)) → AllByRecursion (PinsOwned s n (deed ∷ D)) (sent (history_of s n D))
 pins_still s n limits deed D right all =
-    all_both (PinsOwned s n D) (λ (one : SentItem). is_pinned D one ≡ true → AllByRecursion (λ rep. 1 ≤ pins rep (history_of s n D)) (counted_in one.item)) (PinsOwned s n (deed ∷ D))
-    (λ one owned some is. let before = pinned_before deed D one is in all_both (λ rep. is_owned s n rep D ≡ true) (λ rep. 1 ≤ pins rep (history_of s n D)) (λ rep. is_owned s n rep (deed ∷ D) ≡ true)
-    (λ rep its pin. owned_stays s n rep deed D (took_turns s n limits (deed ∷ D) right) (pinned_kept s n limits rep deed D right.0 pin) its) (counted_in one.item) (owned before) (some before))
-    (sent (history_of s n D)) all (pins_stand s n D)
+    let still : (one : SentItem) → PinsOwned s n D one → (is_pinned D one ≡ true → AllByRecursion (λ rep. 1 ≤ pins rep (history_of s n D)) (counted_in one.item)) → is_pinned D one ≡ true → AllByRecursion (λ rep. is_owned s n rep (deed ∷ D) ≡ true) (counted_in one.item) = λ one owned some before.
+    all_both (λ rep. is_owned s n rep D ≡ true) (λ rep. 1 ≤ pins rep (history_of s n D)) (λ rep. is_owned s n rep (deed ∷ D) ≡ true)
+    (λ rep its pin. owned_stays s n rep deed D (took_turns s n limits (deed ∷ D) right) (pinned_kept s n limits rep deed D right.0 pin) its) (counted_in one.item) (owned before) (some before) in
+    all_both (λ (one : SentItem). is_pinned D one ≡ true → AllByRecursion (λ rep. is_owned s n rep (deed ∷ D) ≡ true) (counted_in one.item)) (λ (one : SentItem). is_pinned (deed ∷ D) one ≡ true → is_pinned D one ≡ true) (PinsOwned s n (deed ∷ D))
+    (λ one owned before is. owned (before is)) (sent (history_of s n D))
+    (all_both (PinsOwned s n D) (λ (one : SentItem). is_pinned D one ≡ true → AllByRecursion (λ rep. 1 ≤ pins rep (history_of s n D)) (counted_in one.item)) (λ (one : SentItem). is_pinned D one ≡ true → AllByRecursion (λ rep. is_owned s n rep (deed ∷ D) ≡ true) (counted_in one.item)) still (sent (history_of s n D)) all (pins_stand s n D))
+    (pinned_earlier s n limits deed D right)
 
 -- ---- what is handed on
 
@@ -244,7 +237,7 @@ CarriesOwned s n D gift = AllByRecursion (λ rep. is_owned s n rep D ≡ true) (
 value_owned : (s n : ℕ) (limits : Limits) (deed : Deed) (value : Value) (D : List Deed) → AreRightDeeds s n limits (deed ∷ D) → HoldsOwned s n D → value_refused s (history_of s n D) value ≡ None → AllByRecursion (λ rep. is_owned s n rep (deed ∷ D) ≡ true) (filter is_counted (refs_in value))
 value_owned s n limits deed value D right all e =
     all_both (λ rep. is_counted rep ≡ true) (λ rep. is_held s rep (history_of s n D) ≡ true) (λ rep. is_owned s n rep (deed ∷ D) ≡ true)
-    (λ rep counted held. held_stays s n limits deed D right rep held (held_owned s n limits rep D right.1 all counted held))
+    (λ rep counted held. held_stays s n limits deed D right rep counted held (held_owned s n limits rep D right.1 all counted held))
     (filter is_counted (refs_in value)) (all_pass is_counted (refs_in value))
     (refs_held s (history_of s n D) (filter is_counted (refs_in value)) (next_none (is_faulty (pickle_of value)) refusals.TooBig (refs_refused s (history_of s n D) (filter is_counted (refs_in value))) e).1)
 

@@ -1,5 +1,5 @@
 -- The bundles by peer and item number, and the counts by reference, as the table keeps them.
-use Rattle.std.specs.Prelude.{ℕ, ◌≡◌, ◌-◌, ◌^◌, ◌==◌, ◌++◌, ◌<◌, Bool, List, [], ◌∷◌, Option, Some, map, nat_lt, get_or, slice_get, MatchOption}
+use Rattle.std.specs.Prelude.{ℕ, ◌≡◌, ◌-◌, ◌^◌, ◌==◌, ◌++◌, ◌<◌, Bool, List, [], ◌∷◌, Option, Some, map, nat_lt, get_or, slice_get, IfSome, MatchOption}
 use Rattle.std.specs.Option.{unwrap_or, option_map_or}
 use Rattle.std.specs.List.{All, list_any, flat_map}
 use Rattle.std.specs.Map.{lookup}
@@ -32,6 +32,10 @@ Pops old result new = MatchOption result ((old ≡ []) × (new ≡ [])) (λ bund
 -- the count of a reference
 abbrev pub count_in : List (WireRep × ℕ) → WireRep → ℕ
 count_in rows rep = unwrap_or (lookup (is_same rep) rows) 0
+
+-- no reference has a count of 0
+abbrev pub AreSome : List (WireRep × ℕ) → Type 0
+AreSome rows = (rep : WireRep) → IfSome (lookup (is_same rep) rows) (λ count. 0 < count)
 
 -- whether so many more pins on this reference are too many to count
 abbrev pub is_many : List (WireRep × ℕ) → ℕ → WireRep → Bool

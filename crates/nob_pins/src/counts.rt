@@ -28,6 +28,10 @@ impl Model for Counts {
       rows = counts.counts.rows;
       room = counts.counts.room;
     } };
+
+    ghost use Rattle.nob_pins.specs.Peers.{AreSome};
+
+    ghost invariant = { λ counts. AreSome counts.counts.rows };
 }
 
 impl Counts {

@@ -24,14 +24,15 @@ module _ {X : Type 0} where
   pub walk_plus : (nodes : List (Node X)) (rep : WireRep) (depth place : ℕ) (next : Option ℕ) → walk nodes rep depth ≡ Some place → next_of (slice_get nodes place) (bit rep depth) ≡ next → walk nodes rep (depth + 1) ≡ next
   walk_plus nodes rep depth place next way is = let e : suc depth ≡ depth + 1 = omega arith in subst (λ (n : ℕ). walk nodes rep n ≡ next) e (walk_more nodes rep depth place next way is)
 
-  pub nowhere : (nodes : List (Node X)) (rep : WireRep) (depth place : ℕ) → walk nodes rep depth ≡ Some place
-      → ((at other : ℕ) → at < depth → walk nodes rep at ≡ Some other → has_rep rep (slice_get nodes other) ≡ false)
-      → has_rep rep (slice_get nodes place) ≡ false → (depth < 70 → walk nodes rep (suc depth) ≡ None) → IsNowhere nodes rep
-  nowhere nodes rep depth place way before not_here ended at other le is =
-      elim (nat_lt at depth) as (λ b. nat_lt at depth ≡ b → has_rep rep (slice_get nodes other) ≡ false) [
+  pub never : (test : Option (Node X) → Bool) (most : ℕ) (nodes : List (Node X)) (rep : WireRep) (depth place : ℕ) → walk nodes rep depth ≡ Some place
+      → ((at other : ℕ) → at < depth → walk nodes rep at ≡ Some other → test (slice_get nodes other) ≡ false)
+      → test (slice_get nodes place) ≡ false → (depth < most → walk nodes rep (suc depth) ≡ None)
+      → (at other : ℕ) → at ≤ most → walk nodes rep at ≡ Some other → test (slice_get nodes other) ≡ false
+  never test most nodes rep depth place way before not_here ended at other le is =
+      elim (nat_lt at depth) as (λ b. nat_lt at depth ≡ b → test (slice_get nodes other) ≡ false) [
         | true ↦ λ t. before at other (grind (arith, nat_tests)) is
         | false ↦ λ f. elim (cases_eq at depth) [
-          | inl e ↦ subst (λ (p : ℕ). has_rep rep (slice_get nodes p) ≡ false) (same_Some place other (sym way ∙ subst (λ (n : ℕ). walk nodes rep n ≡ Some other) e is)) not_here
+          | inl e ↦ subst (λ (p : ℕ). test (slice_get nodes p) ≡ false) (same_Some place other (sym way ∙ subst (λ (n : ℕ). walk nodes rep n ≡ Some other) e is)) not_here
           | inr n ↦
               let above : suc depth ≤ at = elim (nat_lt depth at) as (λ b. nat_lt depth at ≡ b → suc depth ≤ at) [
                 | true ↦ λ t. grind (arith, nat_tests)
@@ -40,6 +41,11 @@ module _ {X : Type 0} where
               absurd (none-some other (sym (walk_ended nodes rep (suc depth) at above (ended (omega (arith, above, le)))) ∙ is))
         ]
       ] refl
+
+  pub nowhere : (nodes : List (Node X)) (rep : WireRep) (depth place : ℕ) → walk nodes rep depth ≡ Some place
+      → ((at other : ℕ) → at < depth → walk nodes rep at ≡ Some other → has_rep rep (slice_get nodes other) ≡ false)
+      → has_rep rep (slice_get nodes place) ≡ false → (depth < 70 → walk nodes rep (suc depth) ≡ None) → IsNowhere nodes rep
+  nowhere nodes rep depth place way before not_here ended = never (has_rep rep) 70 nodes rep depth place way before not_here ended
 
   pub below_start : (nodes : List (Node X)) (place : ℕ) → place < length nodes → IsBelow nodes place 0 place
   below_start nodes place less =

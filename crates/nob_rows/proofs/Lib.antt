@@ -3,6 +3,7 @@ pub mod Edits
 pub mod Leaves
 pub mod Looked
 pub mod Moves
+pub mod Owners
 pub mod Set
 pub mod Taken
 pub mod Flat

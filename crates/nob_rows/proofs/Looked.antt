@@ -22,7 +22,7 @@ use Rattle.nob_rows.proofs.Taken.{row_get}
 use Rattle.nob_rows.proofs.Walks.{own}
 
 -- a node that there may be, of a list's
-node_at : {A B : Type 0} (f : A → B) (o : Option A) (y : B) → option_map f o ≡ Some y → (x : A) × (o ≡ Some x) × (f x ≡ y)
+pub node_at : {A B : Type 0} (f : A → B) (o : Option A) (y : B) → option_map f o ≡ Some y → (x : A) × (o ≡ Some x) × (f x ≡ y)
 node_at f None y e = absurd (none-some y e)
 node_at f (Some x) y e = (x, refl, same_Some (f x) y e)
 

@@ -52,9 +52,17 @@ high_bit rep i =
     let e : 6 + i - 6 ≡ i = omega arith in
     rw (f, e) refl
 
+-- references of the same owner have the same first six bits
+pub agree_owner : (a b : WireRep) → a.owner ≡ b.owner → Agree a b 6
+agree_owner a b same i less = low_bit a i less ∙ ap (λ (owner : ℕ). bit_at owner i == 1) same ∙ sym (low_bit b i less)
+
+-- references of the same first six bits have the same owner
+pub same_owner : (a b : WireRep) → Fits a → Fits b → Agree a b 6 → a.owner ≡ b.owner
+same_owner a b x y agree = same_number 6 a.owner b.owner x.0 y.0 (λ i less. same_bit a.owner b.owner i (sym (low_bit a i less) ∙ agree i less ∙ low_bit b i less))
+
 -- references of the same bits are one
 pub same_bits : (a b : WireRep) → Fits a → Fits b → Agree a b 70 → is_same a b ≡ true
 same_bits a b x y agree =
-    let owner : a.owner ≡ b.owner = same_number 6 a.owner b.owner x.0 y.0 (λ i less. same_bit a.owner b.owner i (sym (low_bit a i less) ∙ agree i (omega (arith, less)) ∙ low_bit b i less)) in
+    let owner : a.owner ≡ b.owner = same_owner a b x y (λ i less. agree i (omega (arith, less))) in
     let index : a.index ≡ b.index = same_number 64 a.index b.index x.1 y.1 (λ i less. same_bit a.index b.index i (sym (high_bit a i) ∙ agree (6 + i) (omega (arith, less)) ∙ high_bit b i)) in
     rw (owner, index, nat_eq_equiv.refl b.owner, nat_eq_equiv.refl b.index) refl

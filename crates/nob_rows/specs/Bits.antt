@@ -7,6 +7,10 @@ use Rattle.nob_ids.specs.declared.wire_rep.WireRep.{WireRep}
 abbrev pub bit : WireRep → ℕ → Bool
 bit rep depth = if nat_lt depth 6 then bit_at rep.owner depth == 1 else bit_at rep.index (depth - 6) == 1
 
+-- the reference of an owner's agent
+abbrev pub agent : ℕ → WireRep
+agent owner = record { owner = owner; index = 0 }
+
 -- two references have the same first bits, so many
 abbrev pub Agree : WireRep → WireRep → ℕ → Type 0
 Agree rep other depth = (at : ℕ) → at < depth → bit rep at ≡ bit other at

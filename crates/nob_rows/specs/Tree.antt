@@ -3,7 +3,7 @@ use Rattle.std.specs.Prelude.{◌≡◌, ℕ, ◌+◌, ◌<◌, ◌≤◌, ◌==
 use Prim.Native.Nat.{zero, suc}
 use Rattle.nob_ids.specs.Names.{is_same}
 use Rattle.nob_ids.specs.declared.wire_rep.WireRep.{WireRep}
-use Rattle.nob_rows.specs.Bits.{bit, Agree, Fits}
+use Rattle.nob_rows.specs.Bits.{bit, agent, Agree, Fits}
 use Rattle.nob_rows.specs.declared.node.Node.{Node}
 
 -- a place, if it isn't 0
@@ -63,7 +63,7 @@ module _ {X : Type 0} where
   -- the bits of an owner lead to a node with a reference of its, or else they lead to none
   abbrev pub Meets : List (Node X) → ℕ → Bool → Type 0
   Meets nodes owner true = (place : ℕ) × (is_of owner (slice_get nodes place) ≡ true)
-  Meets nodes owner false = (depth place : ℕ) → depth ≤ 6 → walk nodes (record { owner = owner; index = 0 }) depth ≡ Some place → is_of owner (slice_get nodes place) ≡ false
+  Meets nodes owner false = (depth place : ℕ) → depth ≤ 6 → walk nodes (agent owner) depth ≡ Some place → is_of owner (slice_get nodes place) ≡ false
 
   -- a reference's way ends at a place
   pub record EndsAt (nodes : List (Node X)) (rep : WireRep) (place : ℕ) : Type 0 where

@@ -4,6 +4,7 @@ pub mod Linked
 pub mod Lost
 pub mod Marks
 pub mod Ordered
+pub mod Owners
 pub mod Pushed
 pub mod Slotted
 pub mod Stands

@@ -195,7 +195,7 @@ impl ObjectTable {
         ensures none { result ≡ false → (rep : WireRep) → is_of self.now owner rep ≡ true
             → standing self.now rep ≡ unknown }
     {
-        owner != self.me && self.far.has_of(owner)
+        self.far.has_of(owner)
     }
 
     /// How many Dirties were sent: the place that the surrogate of the next one gets. Constant
