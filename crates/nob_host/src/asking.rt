@@ -298,3 +298,19 @@ pub extern "C" fn nob_close(handle: &mut Handle, alloc: Global, peer: u16, told:
     handle.put(host);
     status
 }
+
+/// Open: the session with a peer, which closed here, opens anew.
+#[unsafe(no_mangle)]
+pub extern "C" fn nob_open(handle: &mut Handle, alloc: Global, peer: u16, told: &mut Told) -> u32
+    requires { IsSome handle.old.held }
+    ensures asked { IsSpace peer → Through handle.old.held handle.new.held (λ old new. HostAsked old
+        (events.Open peer) new told.new result) }
+    ensures answer { Through handle.old.held handle.new.held (λ old new. new.answer ≡ old.answer) }
+    ensures range { (IsSpace peer → ⊥) → Through handle.old.held handle.new.held (λ old new. Unasked
+        old new told.new result 60) }
+{
+    let mut host = handle.take(alloc);
+    let status = host.open(peer, told);
+    handle.put(host);
+    status
+}

@@ -43,6 +43,8 @@ refusal_number refusals.Nothing = 10
 refusal_number (refusals.StillUsed used) = use_number used
 refusal_number refusals.NoJob = 12
 refusal_number refusals.Limit = 13
+refusal_number refusals.StillOpen = 15
+refusal_number refusals.StillHeld = 16
 
 -- the number of what a space didn't do
 abbrev pub error_number : SpaceError → ℕ
@@ -134,6 +136,7 @@ answer_told (answers.Cleaned rep) = with_reference 12 rep
 answer_told answers.Withdrawn = only 13
 answer_told (answers.Frames given) = numbered 14 (length given)
 answer_told (answers.Took count) = numbered 15 count
+answer_told (answers.Opened number) = numbered 17 number
 
 -- the status of a result
 abbrev pub status_of : Result Answer Refusal → ℕ

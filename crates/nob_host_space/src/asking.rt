@@ -223,6 +223,19 @@ impl Host {
         self.ask(&Event::Close(peer), told)
     }
 
+    /// Open of the session with a peer. 60 where the peer is outside 1 to 32.
+    pub fn open(&mut self, peer: u16, told: &mut Told) -> u32
+        ensures asked { IsSpace peer → HostAsked self.old (events.Open peer) self.new told.new
+            result }
+        ensures answer { self.new.answer ≡ self.old.answer }
+        ensures range { (IsSpace peer → ⊥) → Unasked self.old self.new told.new result 60 }
+    {
+        let Some(peer) = SpaceId::new(peer) else {
+            return untold(told, OUT_OF_RANGE);
+        };
+        self.ask(&Event::Open(peer), told)
+    }
+
     /// Withdraw of the object of an index.
     pub fn withdraw(&mut self, index: u64, told: &mut Told) -> u32
         ensures asked { HostAsked self.old (events.Withdraw index) self.new told.new result }

@@ -56,6 +56,8 @@ fn refusal_number(refusal: Refusal) -> u32
         Refusal::StillUsed(used) => use_number(used),
         Refusal::NoJob => 12,
         Refusal::Limit => 13,
+        Refusal::StillOpen => 15,
+        Refusal::StillHeld => 16,
     }
 }
 

@@ -133,6 +133,7 @@ impl Told {
             Answer::Withdrawn => Told::only(13),
             Answer::Frames(frames) => Told::numbered(14, frames.as_slice().len() as u64),
             Answer::Took(count) => Told::numbered(15, *count),
+            Answer::Opened(number) => Told::numbered(17, *number as u64),
         }
     }
 }

@@ -52,4 +52,5 @@ module _ {s n : ℕ} {st : State} (call : ℕ) (event : Event) (is : event ≡ e
         | answers.Withdrawn ↦ λ _ _. tt
         | answers.Frames frames ↦ λ own _. absurd (cc)
         | answers.Took count ↦ λ _ _. tt
+        | answers.Opened number ↦ λ _ _. tt
       ] (subst (λ (e : Event). is_some (deed_of e answer) ≡ true) is coming.own) (sym (takes_there coming.stands) ∙ coming.is_right)

@@ -47,6 +47,7 @@ wants_memory (events.TakeReply call) = false
 wants_memory (events.Withdraw index) = false
 wants_memory (events.Tick peer) = false
 wants_memory (events.Close peer) = false
+wants_memory (events.Open peer) = false
 wants_memory (events.Arrive frame) = is_data frame.kind
 wants_memory (_) = true
 

@@ -124,10 +124,10 @@ impl Space {
         Ok(job)
     }
 
-    /// A job's outcome goes to its client, or is dropped where the session with the client has
-    /// closed; what the job had on loan is given back. NoJob where no such job runs; then
-    /// refused as the value of a Call is, or by QueueFull or SeqEnd. A look-up, and linear in the
-    /// value and in what was on loan.
+    /// A job's outcome goes to its client, or is dropped where the session of its Call has closed,
+    /// opened again or not; what the job had on loan is given back. NoJob where no such job runs;
+    /// then refused as the value of a Call is, or by QueueFull or SeqEnd. A look-up, and linear in
+    /// the value and in what was on loan.
     #[tactic(auto, unfolding(nob_model::specs::Right::right_after))]
     pub fn finish(&mut self, job: JobNo, outcome: &Outcome) -> Result<ReplyFate, SpaceError>
         ensures answer { StepAnswers self.old (events.Finish job outcome.now)
@@ -270,5 +270,21 @@ impl Space {
     {
         let reason = self.parts.close(peer)?;
         Ok(reason)
+    }
+
+    /// The session with a peer, which closed here, opens anew: its number. NoPeer; StillOpen where
+    /// it is open; StillHeld where a counted reference to an object of the peer's is held or pinned
+    /// here, or stands in a message that waits; Limit where no number is left. It takes no memory.
+    /// A few steps, and linear in the messages that wait and their references.
+    #[tactic(auto, unfolding(nob_model::specs::Right::right_after))]
+    pub fn open(&mut self, peer: SpaceId) -> Result<u32, Refusal>
+        ensures answer { StepAnswers self.old (events.Open peer)
+            (answered_or_refused (λ number. answers.Opened number) result) }
+        ensures stands { StepStands self.old self.new (events.Open peer)
+            (answered_or_refused (λ number. answers.Opened number) result) }
+        ensures same { SameSpace self.old self.new }
+    {
+        let number = self.parts.open(peer)?;
+        Ok(number)
     }
 }

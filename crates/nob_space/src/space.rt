@@ -291,6 +291,7 @@ impl Space {
             Event::Arrive(frame) => Ok(of_arrive(self.arrive(frame)?)),
             Event::Tick(peer) => Ok(of_tick(self.tick(*peer)?)),
             Event::Close(peer) => Ok(Answer::Closed(self.close(*peer)?)),
+            Event::Open(peer) => Ok(Answer::Opened(self.open(*peer)?)),
         }
     }
 

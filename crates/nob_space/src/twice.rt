@@ -89,5 +89,6 @@ pub(crate) fn again(answer: &Answer, spare: Spare) -> Answer
             _ => unreachable!(),
         },
         Answer::Took(count) => Answer::Took(*count),
+        Answer::Opened(number) => Answer::Opened(*number),
     }
 }

@@ -25,12 +25,12 @@ use Rattle.nob_rows.specs.Rows.{row_at}
 use Rattle.nob_table_rows.specs.Standings as standings
 use Rattle.nob_table.specs.Table.{standing, was_given}
 use Rattle.nob_model_types.specs.declared.deed.Deed.{Deed}
-use Rattle.nob_model_types.specs.declared.deed.Deed.TheVariants.{Act, Clean}
+use Rattle.nob_model_types.specs.declared.deed.Deed.TheVariants.{Act, Clean, Open}
 use Rattle.nob_model_types.specs.declared.turns.OwnerAnswer.TheVariants as said
 use Rattle.nob_model_types.specs.declared.turns.Turns.{Turns}
 use Rattle.nob_model_types.specs.Objects as objects
 use Rattle.nob_model_types.specs.Sessions.{is_peer, closed, item_at}
-use Rattle.nob_model_types.specs.Turns.{turns, turns_after, is_own, is_pending, is_granted, is_refused, wants_dirty, with_dirty, with_answer, with_clean, carries, names}
+use Rattle.nob_model_types.specs.Turns.{no_turns, turns, turns_after, is_own, is_pending, is_granted, is_refused, wants_dirty, with_dirty, with_answer, with_clean, carries, names}
 use Rattle.nob_model_work.specs.declared.work.Outstanding.{Outstanding}
 use Rattle.nob_model_history.specs.declared.transit.SentItem.{SentItem}
 use Rattle.nob_model_history.specs.Histories.{history_of}
@@ -109,6 +109,7 @@ unasked : (s n : ℕ) (rep : WireRep) → is_counted rep ≡ false → (D : List
 unasked s n rep uncounted [] = refl
 unasked s n rep uncounted (Act p k ∷ D) = unasked_after s n p rep uncounted (item_at p k D) D (unasked s n rep uncounted D)
 unasked s n rep uncounted (Clean other ∷ D) = elim (is_same rep other) as (λ b. (if b then with_clean (turns s n rep D) else turns s n rep D).asks ≡ false) [ true ↦ refl | false ↦ unasked s n rep uncounted D ]
+unasked s n rep uncounted (Open q k ∷ D) = elim (q == rep.owner) as (λ b. (if b then no_turns else turns s n rep D).asks ≡ false) [ true ↦ refl | false ↦ unasked s n rep uncounted D ]
 unasked s n rep uncounted (_ ∷ D) = unasked s n rep uncounted D
 
 -- ---- bundles

@@ -206,7 +206,7 @@ module _ {s n : ℕ} {limits : Limits} {st : State} {D : List Deed} (stands : St
       weaker (rep ∷ rest) peers = ((let peer = peers.0 in (grind (arith, nat_tests, peer), grind (arith, nat_tests, peer, is))), weaker rest peers.1)
 
 module _ {s n : ℕ} {limits : Limits} {st : State} {D : List Deed} (stands : Stands s n limits st D) (p k : ℕ) (item : Item) (front : IsFront s n p k item D) (message : IsMessage item)
-    (free : message_refusal st (wanted_refs s n st (counted_in item)) ≡ None) (small : n < 18446744073709551616) (st1 : State) (grows : Grows st st1) where
+    (free : message_refusal st (wanted_refs s n st (counted_in item)) ≡ None) (small : n < 65536) (st1 : State) (grows : Grows st st1) where
   -- the table is as it was
   pub grown_standing : (rep : WireRep) → standing st1.table rep ≡ standing st.table rep
   grown_standing rep = (let same = grows.table.items in λ i. table.stands (same.me i) (same.exported i) (same.objects i) (same.counted i) (same.surrogates i) rep)
@@ -247,7 +247,7 @@ module _ {s n : ℕ} {limits : Limits} {st : State} {D : List Deed} (stands : St
       let few : nat_lt 65536 (surrogate_total st.table + length all) ≡ false = (or_parts _ _ parts.0).1 in
       let total : surrogate_total st1.table ≡ surrogate_total st.table = ap length grows.table.items.surrogates in
       let sent : st1.table.dirties ≡ length (dirties (history_of s n D)) = grows.table.items.dirties ∙ stands.table.dirties in
-      let low : length (dirties (history_of s n D)) ≤ n * 1099511627776 = dirties_low stands in
+      let low : length (dirties (history_of s n D)) ≤ n * 4722366482869645213696 = dirties_low stands in
       let fits : surrogate_total st.table + length all ≤ 65536 = grind (arith, nat_tests, few) in
       let me : st1.table.me ≡ s = grows.table.items.me ∙ stands.table.me in
       record {

@@ -325,7 +325,7 @@ module _ {s n : ℕ} {limits : Limits} {st : State} {D : List Deed} (stands : St
       stands_handed hands (set st.sessions (p - 1) new) t table_of_pins W made stands
       (ends_changed s n limits st.sessions (history_of s n D) (history_of s n (deed ∷ D)) p new stands.ends there.0 after (λ q other. sym (calls_elsewhere hands q (nat_eq_equiv.symm p q ∙ other))))
       table
-      (pins_then hands st.pins.bundles table_of_pins.bundles (orderly stands).settles still stands.pins (subst (λ k. AddsPins st.pins.bundles table_of_pins.bundles p (k + 1) (counted_in item)) count adds))
+      (pins_then hands st.pins.bundles table_of_pins.bundles (orderly stands).settles (orderly stands).rises still stands.pins (subst (λ k. AddsPins st.pins.bundles table_of_pins.bundles p (k + 1) (counted_in item)) count adds))
       outstanding waits calls its
 
 -- the number of one call more is above those of all calls

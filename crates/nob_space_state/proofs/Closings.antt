@@ -69,7 +69,7 @@ use Rattle.nob_space_holds.proofs.Counted.{times_both}
 use Rattle.nob_space_state.proofs.Running.{IsSound, AreSound, all_filter}
 use Rattle.nob_space_holds.proofs.Shows.{no_holds}
 use Rattle.nob_space_state.proofs.Told.{closed_there}
-use Rattle.nob_space_state.proofs.Words.{open_calls}
+use Rattle.nob_model_history.proofs.Inbox.{open_calls}
 use Rattle.nob_space_state.proofs.Kept.{used_of, users_there}
 
 -- ---- what messages from a space have lent

@@ -1,4 +1,3 @@
-pub mod Words
 pub mod Orderly
 pub mod Told
 pub mod Awaited
@@ -23,6 +22,7 @@ pub mod Running
 pub mod Finishing
 pub mod Closings
 pub mod Arrivals
+pub mod Openings
 pub mod Unpinned
 pub mod Nexts
 pub mod Numbered

@@ -21,13 +21,15 @@ use Rattle.nob_model_types.specs.Objects as objects
 use Rattle.nob_model_types.specs.Sessions.{is_peer, closed}
 use Rattle.nob_model_history.specs.Histories.{history_of}
 use Rattle.nob_model_history.specs.Holds.{times, gains, releases}
-use Rattle.nob_model_history.specs.Premises.{SettlesSent}
+use Rattle.nob_model_history.specs.Premises.{SettlesSent, NumbersRise}
+use Rattle.nob_model.specs.Opening.{right_open}
 use Rattle.nob_model.specs.Right.{right_after, right_export, right_dup, right_release, right_withdraw, right_call, right_take_reply, right_claim, right_finish, right_frames, right_closing, right_ticks, right_arrival}
 use Rattle.nob_model.specs.Lists.{IsRightDeed, AreRightDeeds}
 use Rattle.nob_model.proofs.Accepted.{act_tells}
 use Rattle.nob_model.proofs.Doing.{was_answered}
 use Rattle.nob_model.proofs.Orderly as model
 use Rattle.nob_model.proofs.Premises.{settles_sent}
+use Rattle.nob_model.proofs.Reopening.{numbers_rise}
 use Rattle.nob_space_state.specs.Parts.{State}
 use Rattle.nob_space_state.specs.Stands.{Stands}
 
@@ -51,6 +53,8 @@ pub record IsOrderly (s n : ℕ) (D : List Deed) : Type 0 where
   pub strangers : (p : ℕ) → is_peer s n p ≡ false → closed p D ≡ false
   -- what was settled was sent
   pub settles : SettlesSent s n D
+  -- sessions were opened anew under numbers that rise
+  pub rises : NumbersRise D
   -- what was acted on came from peers
   pub acts : ActsOnPeers s n D
 
@@ -72,6 +76,7 @@ orderly {s} {n} {limits} {st} {D} stands = record {
   withdrawn = model.withdrawn s n limits D stands.right;
   strangers = model.strangers s n limits D stands.right;
   settles = settles_sent s n limits D stands.right;
+  rises = numbers_rise s n limits D stands.right;
   acts = acts_on_peers s n limits D stands.right;
 }
 
@@ -141,3 +146,7 @@ module _ (s n : ℕ) (limits : Limits) (D : List Deed) where
   pub arrive_close_is : (frame : Frame) (reason : Reason) → right_arrival s n frame (history_of s n D) ≡ Ok (answers.Closed reason) → IsRightDeed s n limits (did.Closing frame.from reason (causes.Frame frame)) D
   unfolding right_after
   arrive_close_is frame reason is = (events.Arrive frame, ap (deed_by (events.Arrive frame)) is)
+
+  pub open_is : (p k : ℕ) → right_open s n p (history_of s n D) ≡ Ok (answers.Opened k) → IsRightDeed s n limits (did.Open p k) D
+  unfolding right_after
+  open_is p k is = (events.Open p, ap (deed_by (events.Open p)) is)

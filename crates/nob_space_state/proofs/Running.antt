@@ -146,7 +146,7 @@ pub record AreSound (s n : ℕ) (W : Outstanding) : Type 0 where
   pub ready : AllByRecursion (IsSound s n) W.ready
   pub running : AllByRecursion (IsSoundRun s n) W.running
 
-filter_counted : (reps : List WireRep) → AllByRecursion (λ (rep : WireRep). is_counted rep ≡ true) (filter is_counted reps)
+pub filter_counted : (reps : List WireRep) → AllByRecursion (λ (rep : WireRep). is_counted rep ≡ true) (filter is_counted reps)
 filter_counted [] = tt
 filter_counted (rep ∷ reps) = elim (is_counted rep) as (λ b. is_counted rep ≡ b → AllByRecursion (λ (w : WireRep). is_counted w ≡ true) (cond b (rep ∷ filter is_counted reps) (filter is_counted reps))) [ true ↦ λ is. (is, filter_counted reps) | false ↦ λ _. filter_counted reps ] refl
 

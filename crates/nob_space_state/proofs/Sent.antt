@@ -32,7 +32,7 @@ use Rattle.nob_model_history.specs.Histories.{history_of}
 use Rattle.nob_model_history.specs.Ends.{items_to, kind_of, payload_of, with_sends, own_calls, calls_at}
 use Rattle.nob_model_history.specs.Holds.{gains, releases, times}
 use Rattle.nob_model_history.specs.Listing.{is_listed}
-use Rattle.nob_model_history.specs.Premises.{SettlesSent}
+use Rattle.nob_model_history.specs.Premises.{SettlesSent, NumbersRise}
 use Rattle.nob_model_history.specs.Transit as transit
 use Rattle.nob_model_history.specs.Transit.{asks_for, count_to, next_sent, is_pinned, is_settled, is_some_of, sent}
 use Rattle.nob_model_history.proofs.Dirtying.{asked_in, dirties_more}
@@ -47,6 +47,7 @@ use Rattle.nob_space_holds.specs.Shows.{TableShows, TableStands, far_state}
 use Rattle.nob_space_state.specs.Stands.{Stands, EndsStand, PinsStand, AreAwaited, bundle}
 use Rattle.nob_model_types.specs.declared.message.Message.{Message}
 use Rattle.nob_space_state.proofs.Awaited.{same_lost, still_awaited}
+use Rattle.nob_space_state.proofs.Orderly.{orderly}
 use Rattle.nob_space_holds.proofs.Marked.{used_then}
 use Rattle.nob_space_holds.proofs.Counted.{times_both}
 
@@ -133,11 +134,11 @@ module _ {s n p : ℕ} {item : Item} {deed : Deed} {D : List Deed} (hands : Hand
       (ap (λ (b : Bool). is_some_of (counted_in item) && not b) still ∙ and_true (is_some_of (counted_in item)))
 
   -- the bundles, once the pins of the item are put to them
-  pub pins_then : (old new : List Pinned) → SettlesSent s n D → closed p D ≡ false → PinsStand old (history_of s n D)
+  pub pins_then : (old new : List Pinned) → SettlesSent s n D → NumbersRise D → closed p D ≡ false → PinsStand old (history_of s n D)
       → AddsPins old new p (length (handed (calls_at p (history_of s n D))) + 1) (counted_in item) → PinsStand new (history_of s n (deed ∷ D))
-  pins_then old new known still stand adds = λ f.
+  pins_then old new known rises still stand adds = λ f.
       sums_then f (next_sent D (sent (history_of s n D)) (gift_to p item)) old new (transit.bundles (history_of s n D)) (counted_in item) (stand f)
-      (subst (λ (k : ℕ). AddsPins old new p (k + 1) (counted_in item)) (count_handed s n p D) adds) refl
+      (subst (λ (k : ℕ). AddsPins old new p (k + 1) (counted_in item)) (count_handed s n p D rises) adds) refl
       ∙ ap (λ (items : List SentItem). sum_by f (map bundle items)) (sym (bundles_then known still))
 
   -- what a table shows, with other holds
@@ -201,5 +202,5 @@ not_both false never = refl
 -- there is no bundle of the next item
 pub next_unpinned : {s n : ℕ} {limits : Limits} {st : State} {D : List Deed} (p k : ℕ) → Stands s n limits st D → k ≡ length (handed (calls_at p (history_of s n D))) + 1 → has_bundle st.pins.bundles p k ≡ false
 next_unpinned {s} {n} {limits} {st} {D} p k stands next =
-    let none : transit.has_bundle p k (history_of s n D) ≡ false = not_both (transit.has_bundle p k (history_of s n D)) (λ some. let low = bundle_sent s n p k D some in let count = count_handed s n p D in omega (arith, low, count, next)) in
+    let none : transit.has_bundle p k (history_of s n D) ≡ false = not_both (transit.has_bundle p k (history_of s n D)) (λ some. let low = bundle_sent s n p k D some in let count = count_handed s n p D (orderly stands).rises in omega (arith, low, count, next)) in
     no_bundle p k st.pins.bundles (stands.pins (λ (one : Pinned). cond (is_of p k one) 1 0) ∙ no_sum p k (transit.bundles (history_of s n D)) none)

@@ -8,6 +8,7 @@ use Rattle.nob_model_types.specs.declared.deed.Deed.{Deed}
 use Rattle.nob_model_types.specs.Sessions.{number, acted}
 use Rattle.nob_model_history.specs.Histories.{history_of}
 use Rattle.nob_model_history.specs.Ends.{calls_at}
+use Rattle.nob_model_history.specs.Premises.{NumbersRise}
 use Rattle.nob_model_history.specs.Transit.{count_to, sent}
 use Rattle.nob_model_history.proofs.Inbox.{acted_takes}
 use Rattle.nob_model_history.proofs.Numbered.{count_handed}
@@ -16,9 +17,9 @@ use Rattle.nob_space_state.specs.Parts.{State}
 use Rattle.nob_space_state.specs.Stands.{Stands}
 
 -- the tally with p is what the end with p counts
-pub tally_there : (s n p : ℕ) (limits : Limits) (end : End) (D : List Deed) → session.Stands s p limits end (calls_at p (history_of s n D)) → tally p (history_of s n D) ≡ record { sent = end.handed; acted = end.taken; closed = end.ending }
-tally_there s n p limits end D stands =
-    let handed_is : end.handed ≡ count_to p (number p D) (sent (history_of s n D)) = ap (λ (e : End). e.handed) stands ∙ count_handed s n p D in
+pub tally_there : (s n p : ℕ) (limits : Limits) (end : End) (D : List Deed) → NumbersRise D → session.Stands s p limits end (calls_at p (history_of s n D)) → tally p (history_of s n D) ≡ record { sent = end.handed; acted = end.taken; closed = end.ending }
+tally_there s n p limits end D rises stands =
+    let handed_is : end.handed ≡ count_to p (number p D) (sent (history_of s n D)) = ap (λ (e : End). e.handed) stands ∙ count_handed s n p D rises in
     let taken_is : end.taken ≡ length (acted p D) = ap (λ (e : End). e.taken) stands ∙ sym (acted_takes s n p D) in
     let ending_is : end.ending ≡ ending (calls_at p (history_of s n D)) = ap (λ (e : End). e.ending) stands in
     rw (sym handed_is, sym taken_is, sym ending_is) refl

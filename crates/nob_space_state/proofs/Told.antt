@@ -25,7 +25,7 @@ use Rattle.nob_space_state.specs.Parts.{State}
 use Rattle.nob_space_state.specs.Looks.{is_closed_end, has_closed, number_of, number_with, has_ended}
 use Rattle.nob_space_state.proofs.Orderly.{orderly}
 use Rattle.nob_space_state.specs.Stands.{Stands}
-use Rattle.nob_space_state.proofs.Words.{open_calls}
+use Rattle.nob_model_history.proofs.Inbox.{open_calls}
 
 -- where a session hasn't ended its end is open
 pub still_there : (sessions : List Roomy) (p k : ℕ) → has_ended sessions p k ≡ false → has_closed sessions p ≡ false

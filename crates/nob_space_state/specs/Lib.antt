@@ -9,3 +9,4 @@ pub mod Taking
 pub mod Stands
 pub mod Closing
 pub mod Dues
+pub mod Opening

@@ -11,6 +11,7 @@ mod listings;
 mod looks;
 mod next;
 mod objects;
+mod opening;
 mod parts;
 mod sending;
 mod sessions;

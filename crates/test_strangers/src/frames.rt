@@ -133,12 +133,12 @@ pub fn reason_bytes(alloc: Global, words: &mut Words) -> Result<Bytes, AllocErro
     Ok(Bytes::from_vec(bytes))
 }
 
-/// The number of a session: the first mostly, else one of the next, or 0, which no frame has.
-pub fn random_session(words: &mut Words) -> u32 {
+/// The number of a session: the present one mostly, else one of the first, or 0, which no frame has.
+pub fn random_session(words: &mut Words, present: u32) -> u32 {
     if words.below(128) == 0 {
         (words.below(FEW) % 5) as u32
     } else {
-        1
+        present
     }
 }
 
@@ -166,7 +166,7 @@ pub fn any_frame(alloc: Global, words: &mut Words) -> Result<Option<Frame>, Allo
         kind,
         from,
         to,
-        session: random_session(words),
+        session: random_session(words, 1),
         seq,
         ack,
         payload,

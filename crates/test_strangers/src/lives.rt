@@ -72,13 +72,26 @@ impl Life {
         Ok(same_result(&entry.result, &wanted))
     }
 
-    // How many items were accepted from a peer.
+    // How many items were accepted from a peer in the present session with it.
     fn accepted(&self, peer: SpaceId) -> u64 {
         let mut count: u64 = 0;
         for entry in self.entries.iter() {
+            if opened_in(entry, peer).is_some() {
+                return count;
+            }
             count = count.saturating_add(accepted_in(entry, peer));
         }
         count
+    }
+
+    // The number of the present session with a peer.
+    fn session(&self, peer: SpaceId) -> u32 {
+        for entry in self.entries.iter() {
+            if let Some(number) = opened_in(entry, peer) {
+                return number;
+            }
+        }
+        1
     }
 
     /// A random frame comes, which may be altered: whether the space answers what is right. One
@@ -120,7 +133,7 @@ impl Life {
             kind,
             from,
             to: self.here.space,
-            session: random_session(words),
+            session: random_session(words, self.session(from)),
             seq,
             ack,
             payload,
@@ -193,6 +206,21 @@ fn accepted_in(entry: &Entry, peer: SpaceId) -> u64 {
         Ok(Answer::Took(count)) => *count,
         Ok(_) => 0,
         Err(_) => 0,
+    }
+}
+
+// The number under which an entry opened the session with a peer anew.
+fn opened_in(entry: &Entry, peer: SpaceId) -> Option<u32> {
+    let Event::Open(opened) = &entry.event else {
+        return None;
+    };
+    if *opened != peer {
+        return None;
+    }
+    match &entry.result {
+        Ok(Answer::Opened(number)) => Some(*number),
+        Ok(_) => None,
+        Err(_) => None,
     }
 }
 
@@ -301,12 +329,12 @@ fn busy_event(words: &mut Words, peer: SpaceId) -> Event {
     }
 }
 
-// A tick, or seldom a close, of the session with a peer.
+// A tick or an open, or seldom a close, of the session with a peer.
 fn random_end(words: &mut Words, peer: SpaceId) -> Event {
-    if words.below(8) == 0 {
-        Event::Close(peer)
-    } else {
-        Event::Tick(peer)
+    match words.below(8) {
+        0 => Event::Close(peer),
+        1..=3 => Event::Open(peer),
+        _ => Event::Tick(peer),
     }
 }
 

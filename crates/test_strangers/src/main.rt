@@ -67,7 +67,7 @@ fn try_lives(rt: &HostRuntime, frames: u64) -> io::Result<()> {
     let reasons = seen.reasons.count();
     let answers = seen.answers.count();
     let text = format!(in alloc;
-        "{faults} of 12 faults, {reasons} of 6 reasons, {answers} of 15 kinds of answer"
+        "{faults} of 12 faults, {reasons} of 6 reasons, {answers} of 16 kinds of answer"
     )?;
     rt.println(text.as_str())
 }
