@@ -1,5 +1,5 @@
 -- Events and results of traces by what is read of them.
-use Rattle.std.proofs.Common.{◌≡◌, ℕ, true, refl, List, [], ◌∷◌, Result, Ok, Err}
+use Rattle.std.proofs.Common.{◌≡◌, ℕ, true, false, true≢false, refl, sym, ap, ◌∙◌, List, [], ◌∷◌, Result, Ok, Err}
 use Rattle.nob_frame.specs.declared.version.Version.{Version}
 use Rattle.nob_model_types.specs.declared.event.Event.{Event}
 use Rattle.nob_model_types.specs.declared.event.Event.TheVariants as events
@@ -37,6 +37,10 @@ no_arrival version text (events.Open p) speaks has = ((has, speaks.0), speaks.1)
 pub traced_had : (version : Version) (event : Event) → IsTracedEvent version event → has_event version event ≡ true
 traced_had version (events.Open p) is = is.0
 traced_had version event is = refl
+
+-- so what a version hasn't is none that can stand in its traces
+pub not_had : (version : Version) (found event : Event) → IsTracedEvent version event → found ≡ event → has_event version found ≡ false → ⊥
+not_had version found event is same none = true≢false (sym (traced_had version event is) ∙ ap (has_event version) (sym same) ∙ none)
 
 -- an answer that has a text of its own is one of a trace
 pub no_frames : (version : Version) (text : List ℕ) (answer : Answer) → Tells text answer → IsTracedResult version (Ok answer) × (text ≡ answer_text (transmit_text version answer) answer)

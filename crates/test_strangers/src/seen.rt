@@ -119,5 +119,6 @@ fn number_of_answer(answer: &Answer) -> u8 {
         Answer::Withdrawn => 13,
         Answer::Frames(_) => 14,
         Answer::Took(_) => 15,
+        Answer::Opened(_) => 16,
     }
 }
