@@ -51,6 +51,10 @@ arrival_count : (b : Bool) (frame : Frame) (count : ℕ) (calls : List EndEntry)
 arrival_count true frame count calls = refl
 arrival_count false frame count calls = refl
 
+opened_count : (b : Bool) (k : ℕ) (calls : List EndEntry) (m : ℕ) → accepted_count calls ≡ m → accepted_count (cond b (ends.Reopen k (Ok tt) ∷ calls) calls) ≡ cond b 0 m
+opened_count true k calls m is = refl
+opened_count false k calls m is = is
+
 own_count : (p : ℕ) (deed : Deed) (D : List Deed) (calls : List EndEntry) → end.number calls ≡ number p D → accepted_count calls ≡ accepted_from p D → accepted_count (own_calls p deed calls) ≡ accepted_from p (deed ∷ D)
 own_count p (did.Act q j) D calls session is = if_count (q == p) _ calls refl ∙ is
 own_count p (did.Transmit q frames) D calls session is = if_count (q == p) _ calls refl ∙ is
@@ -60,6 +64,7 @@ own_count p (did.Arrive frame count) D calls session is =
     ∙ ap (λ (m : ℕ). cond (is_from p frame D) (count + m) m) is
 own_count p (did.Tick q) D calls session is = if_count (q == p) _ calls refl ∙ is
 own_count p (did.Closing q reason cause) D calls session is = if_count (q == p) _ calls (closing_count p reason cause calls) ∙ is
+own_count p (did.Open q k) D calls session is = opened_count (q == p) k calls (accepted_from p D) is
 own_count p deed D calls session is = is
 
 -- what a deed gives is sent in the session with p
@@ -102,6 +107,10 @@ arrival_payload : (k : ℕ) (b : Bool) (frame : Frame) (count : ℕ) (calls : Li
 arrival_payload k true frame count calls = refl
 arrival_payload k false frame count calls = sym (or_none (payload k calls))
 
+opened_payload : (k : ℕ) (b : Bool) (j : ℕ) (calls : List EndEntry) (found : Option (List ℕ)) → payload k calls ≡ found → payload k (cond b (ends.Reopen j (Ok tt) ∷ calls) calls) ≡ cond b None found
+opened_payload k true j calls found is = refl
+opened_payload k false j calls found is = is
+
 own_payload : (p k : ℕ) (deed : Deed) (D : List Deed) (calls : List EndEntry) → end.number calls ≡ number p D → accepted_count calls ≡ accepted_from p D → payload k calls ≡ payload_at p k D → payload k (own_calls p deed calls) ≡ payload_at p k (deed ∷ D)
 own_payload p k (did.Act q j) D calls session count is = if_payload k (q == p) _ calls refl ∙ is
 own_payload p k (did.Transmit q frames) D calls session count is = if_payload k (q == p) _ calls refl ∙ is
@@ -112,6 +121,7 @@ own_payload p k (did.Arrive frame took) D calls session count is =
     ∙ ap (λ (m : ℕ). option_or (payload_at p k D) (cond (is_from p frame D && brings_at k frame m) (Some frame.payload) None)) count
 own_payload p k (did.Tick q) D calls session count is = if_payload k (q == p) _ calls refl ∙ is
 own_payload p k (did.Closing q reason cause) D calls session count is = if_payload k (q == p) _ calls (closing_payload k p reason cause calls) ∙ is
+own_payload p k (did.Open q j) D calls session count is = opened_payload k (q == p) j calls (payload_at p k D) is
 own_payload p k deed D calls session count is = is
 
 -- the payload of item k from p is the one that came at the end with p, in every list
@@ -149,6 +159,7 @@ came_more s n p (did.Arrive frame count) D next came =
     if_came (frame.from == p) _ _ (λ own. sends_found frame count (items_to p (gifts s n (did.Arrive frame count) D (work s n D))) (calls_at p (history_of s n D)) (subst (λ (q : ℕ). AcceptsWhatCame (ends.Arrive frame (Ok (arrived.Took count))) (calls_at q (history_of s n D))) (eqb-true frame.from p own) next)) came
 came_more s n p (did.Tick q) D next came = if_came (q == p) _ _ (λ own. tt) came
 came_more s n p (did.Closing q reason cause) D next came = if_came (q == p) _ _ (λ own. closing_came p reason cause (calls_sent s n p (did.Closing q reason cause) D)) came
+came_more s n p (did.Open q k) D next came = if_came (q == p) _ _ (λ own. tt) came
 came_more s n p deed D next came = came
 
 -- where each deed accepted the next items or none, each call on the end with a peer accepted what had come

@@ -16,6 +16,7 @@ use Rattle.nob_model_types.specs.Sessions.{closed, acted, item_at}
 use Rattle.nob_model_work.specs.Work.{work}
 use Rattle.nob_model_work.specs.Gifts.{gifts}
 use Rattle.nob_model_history.specs.Histories.{history_of}
+use Rattle.nob_model_history.proofs.Sessions.{opens}
 use Rattle.nob_model_history.specs.Ends.{items_to, payload_of, kind_of, with_sends, own_calls, call_of_closing, calls_at}
 
 -- the calls on the end with p once the items that a deed gave are sent
@@ -55,12 +56,17 @@ if_closing : (b before : Bool) (p : ℕ) (reason : Reason) (cause : Cause) (call
 if_closing true before p reason cause calls is = closing_open p reason cause calls
 if_closing false before p reason cause calls is = is
 
+if_opened : (b : Bool) (k : ℕ) (calls : List EndEntry) (before : Bool) → is_open calls ≡ not before → is_open (cond b (ends.Reopen k (Ok tt) ∷ calls) calls) ≡ not (cond b false before)
+if_opened true k calls before is = refl
+if_opened false k calls before is = is
+
 open_step : (p : ℕ) (deed : Deed) (D : List Deed) (calls : List EndEntry) → is_open calls ≡ not (closed p D) → is_open (own_calls p deed calls) ≡ not (closed p (deed ∷ D))
 open_step p (did.Act q k) D calls is = if_open (q == p) _ calls (not (closed p D)) refl is
 open_step p (did.Transmit q frames) D calls is = if_open (q == p) _ calls (not (closed p D)) refl is
 open_step p (did.Arrive frame count) D calls is = if_open (frame.from == p) _ calls (not (closed p D)) refl is
 open_step p (did.Tick q) D calls is = if_open (q == p) _ calls (not (closed p D)) refl is
 open_step p (did.Closing q reason cause) D calls is = if_closing (q == p) (closed p D) p reason cause calls is
+open_step p (did.Open q k) D calls is = if_opened (q == p) k calls (closed p D) is
 open_step p deed D calls is = is
 
 -- the end with p is open exactly where the session with p hasn't closed
@@ -93,26 +99,36 @@ abbrev pub is_act : Deed → Bool
 is_act (did.Act q k) = true
 is_act (_) = false
 
-own_takes : (p : ℕ) (deed : Deed) (calls : List EndEntry) → is_act deed ≡ false → takes (own_calls p deed calls) ≡ takes calls
-own_takes p (did.Act q k) calls none = cc
-own_takes p (did.Transmit q frames) calls none = if_takes (q == p) _ calls refl
-own_takes p (did.Arrive frame count) calls none = if_takes (frame.from == p) _ calls refl
-own_takes p (did.Tick q) calls none = if_takes (q == p) _ calls refl
-own_takes p (did.Closing q reason cause) calls none = if_takes (q == p) _ calls (closing_takes p reason cause calls)
-own_takes p deed calls none = refl
+own_takes : (p : ℕ) (deed : Deed) (calls : List EndEntry) → is_act deed ≡ false → opens p deed ≡ false → takes (own_calls p deed calls) ≡ takes calls
+own_takes p (did.Act q k) calls none kept = cc
+own_takes p (did.Transmit q frames) calls none kept = if_takes (q == p) _ calls refl
+own_takes p (did.Arrive frame count) calls none kept = if_takes (frame.from == p) _ calls refl
+own_takes p (did.Tick q) calls none kept = if_takes (q == p) _ calls refl
+own_takes p (did.Closing q reason cause) calls none kept = if_takes (q == p) _ calls (closing_takes p reason cause calls)
+own_takes p (did.Open q k) calls none kept = ap (λ (b : Bool). takes (cond b (ends.Reopen k (Ok tt) ∷ calls) calls)) kept
+own_takes p deed calls none kept = refl
 
--- no deed but an Act takes an item
-pub takes_same : (s n p : ℕ) (deed : Deed) (D : List Deed) → is_act deed ≡ false → takes (calls_at p (history_of s n (deed ∷ D))) ≡ takes (calls_at p (history_of s n D))
-takes_same s n p deed D none = own_takes p deed (calls_sent s n p deed D) none ∙ sends_takes (items_to p (gifts s n deed D (work s n D))) (calls_at p (history_of s n D))
+-- no deed but an Act takes an item, and none but an Open of p leaves fewer taken
+pub takes_same : (s n p : ℕ) (deed : Deed) (D : List Deed) → is_act deed ≡ false → opens p deed ≡ false → takes (calls_at p (history_of s n (deed ∷ D))) ≡ takes (calls_at p (history_of s n D))
+takes_same s n p deed D none kept = own_takes p deed (calls_sent s n p deed D) none kept ∙ sends_takes (items_to p (gifts s n deed D (work s n D))) (calls_at p (history_of s n D))
 
 no_fewer : (b : Bool) (count : ℕ) → count ≤ cond b (count + 1) count
 no_fewer true count = omega arith
 no_fewer false count = omega arith
 
--- by one deed more no fewer items were taken
-pub takes_no_fewer : (s n p : ℕ) (deed : Deed) (D : List Deed) → takes (calls_at p (history_of s n D)) ≤ takes (calls_at p (history_of s n (deed ∷ D)))
-takes_no_fewer s n p (did.Act q k) D = subst (λ (m : ℕ). takes (calls_at p (history_of s n D)) ≤ m) (sym (takes_acted s n p q k D)) (no_fewer (q == p) (takes (calls_at p (history_of s n D))))
-takes_no_fewer s n p deed D = let same = takes_same s n p deed D refl in omega (arith, same)
+-- by one deed more no fewer items were taken, if it doesn't open the session anew
+pub takes_no_fewer : (s n p : ℕ) (deed : Deed) (D : List Deed) → opens p deed ≡ false → takes (calls_at p (history_of s n D)) ≤ takes (calls_at p (history_of s n (deed ∷ D)))
+takes_no_fewer s n p (did.Act q k) D kept = subst (λ (m : ℕ). takes (calls_at p (history_of s n D)) ≤ m) (sym (takes_acted s n p q k D)) (no_fewer (q == p) (takes (calls_at p (history_of s n D))))
+takes_no_fewer s n p deed D kept = let same = takes_same s n p deed D refl kept in omega (arith, same)
+
+-- an Open of p leaves none taken, another what was
+takes_opened : (b : Bool) (k : ℕ) (calls : List EndEntry) → takes (cond b (ends.Reopen k (Ok tt) ∷ calls) calls) ≡ cond b 0 (takes calls)
+takes_opened true k calls = refl
+takes_opened false k calls = refl
+
+none_acted : (b : Bool) (before : List (ℕ × Option Item)) (count : ℕ) → length before ≡ count → length (cond b [] before) ≡ cond b 0 count
+none_acted true before count is = refl
+none_acted false before count is = is
 
 length_acted : (b : Bool) (count : ℕ) (before : List (ℕ × Option Item)) (last : ℕ × Option Item) → length before ≡ count → length (cond b (before ++ last ∷ []) before) ≡ cond b (count + 1) count
 length_acted true count before last is = length_push before last ∙ ap (λ (m : ℕ). m + 1) is
@@ -122,7 +138,11 @@ length_acted false count before last is = is
 pub acted_takes : (s n p : ℕ) (D : List Deed) → length (acted p D) ≡ takes (calls_at p (history_of s n D))
 acted_takes s n p [] = refl
 acted_takes s n p (did.Act q k ∷ D) = length_acted (q == p) (takes (calls_at p (history_of s n D))) (acted p D) (k, item_at p k D) (acted_takes s n p D) ∙ sym (takes_acted s n p q k D)
-acted_takes s n p (deed ∷ D) = acted_takes s n p D ∙ sym (takes_same s n p deed D refl)
+acted_takes s n p (did.Open q k ∷ D) =
+    none_acted (q == p) (acted p D) (takes (calls_at p (history_of s n D))) (acted_takes s n p D)
+    ∙ ap (λ (m : ℕ). cond (q == p) 0 m) (sym (sends_takes (items_to p (gifts s n (did.Open q k) D (work s n D))) (calls_at p (history_of s n D))))
+    ∙ sym (takes_opened (q == p) k (calls_sent s n p (did.Open q k) D))
+acted_takes s n p (deed ∷ D) = acted_takes s n p D ∙ sym (takes_same s n p deed D refl refl)
 
 -- ---- the front
 

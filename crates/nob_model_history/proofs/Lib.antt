@@ -11,3 +11,4 @@ pub mod Surrogates
 pub mod Asking
 pub mod Unasked
 pub mod Inbox
+pub mod Anew

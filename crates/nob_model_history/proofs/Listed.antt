@@ -15,6 +15,11 @@ entered_step s index c p k all D listed rest false own entered = or_right _ _ (r
 entered_any : (s index c : ℕ) (all D : List Deed) → is_listed s index c all ≡ true → is_entered s index c D ≡ true → list_any (is_of_listed s index all) D ≡ true
 entered_any s index c all [] listed entered = cc
 entered_any s index c all (did.Act p k ∷ D) listed entered = entered_step s index c p k all D listed (entered_any s index c all D listed) (p == c) refl entered
+entered_any s index c all (did.Open q k ∷ D) listed entered = entered_any s index c all D listed (kept_entered (q == c) (is_entered s index c D) entered)
+  where
+    kept_entered : (b before : Bool) → cond b false before ≡ true → before ≡ true
+    kept_entered true before entered = cc
+    kept_entered false before entered = entered
 entered_any s index c all (deed ∷ D) listed entered = entered_any s index c all D listed entered
 
 -- where a client is listed, somebody is

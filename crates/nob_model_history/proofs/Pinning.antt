@@ -1,5 +1,5 @@
 -- The bundles of pins, by one deed more.
-use Rattle.std.proofs.Common.{◌≡◌, ℕ, ◌+◌, ◌≤◌, ◌&&◌, ◌||◌, not, Bool, true, false, cond, List, [], ◌∷◌, ◌++◌, length, filter, Option, Some, refl, sym, ap, subst, ◌∙◌, arith}
+use Rattle.std.proofs.Common.{◌≡◌, ℕ, ◌+◌, ◌≤◌, ◌<◌, ◌&&◌, ◌||◌, not, Bool, true, false, cond, List, [], ◌∷◌, ◌++◌, length, filter, Option, Some, refl, sym, ap, subst, ◌∙◌, arith}
 use Rattle.std.specs.Prelude.{◌==◌}
 use Rattle.std.specs.List.{AllByRecursion}
 use Rattle.std.proofs.lemmas.List.{append-nil, length-append}
@@ -20,7 +20,8 @@ use Rattle.nob_model_work.specs.Gifts.{gifts, gifts_of, gifts_of_act}
 use Rattle.nob_model_history.specs.declared.transit.SentItem.{SentItem}
 use Rattle.nob_model_history.specs.Histories.{history_of}
 use Rattle.nob_model_history.specs.Transit.{is_sent_to, count_to, sent, is_of_present, is_pinned, is_settled, is_settle_of, is_some_of, bundles, has_bundle}
-use Rattle.nob_model_history.specs.Premises.{SettlesSent}
+use Rattle.nob_model_history.specs.Premises.{SettlesSent, NumbersRise}
+use Rattle.nob_model_history.proofs.Numbered.{sent_sessions}
 use Rattle.nob_model_history.proofs.Sending.{new_items, sent_more, new_present, counted_sent, new_numbers}
 
 -- ---- filters
@@ -131,6 +132,43 @@ bundles_closed s n p reason cause D =
     ∙ filter_same _ _ each (sent (history_of s n D))
     ∙ filter_and (is_pinned D) (λ (one : SentItem). not (one.to == p)) (sent (history_of s n D))
 
+-- ---- an Open
+
+opening_gives_nothing : (s n p k : ℕ) (D : List Deed) (W : Outstanding) → gifts s n (did.Open p k) D W ≡ []
+unfolding gifts gifts_of
+opening_gives_nothing s n p k D W = refl
+
+-- what is of another receiver has pins as before an Open, and what is of its receiver and of an older session has none
+opened_pins : (p k : ℕ) (D : List Deed) → number p D < k → closed p D ≡ true → (one : SentItem) → one.session ≤ number one.to D → is_pinned (did.Open p k ∷ D) one ≡ is_pinned D one
+opened_pins p k D above ended one most = elim (p == one.to) as (λ (b : Bool). (p == one.to) ≡ b → (is_some_of (counted_in one.item) && one.session == cond b k (number one.to D) && not (cond b false (is_settled one.to one.number D)) && not (cond b false (closed one.to D))) ≡ is_pinned D one) [
+  | true ↦ λ own.
+      let same : p ≡ one.to = eqb-true p one.to own in
+      let older : (one.session == k) ≡ false = ne_eqb one.session k (λ is. let below : number one.to D < k = subst (λ (q : ℕ). number q D < k) same above in omega (arith, is, below, most)) in
+      let gone : closed one.to D ≡ true = subst (λ (q : ℕ). closed q D ≡ true) same ended in
+      none_pinned (is_some_of (counted_in one.item)) (one.session == k) (is_of_present D one) (not (is_settled one.to one.number D)) (closed one.to D) older gone
+  | false ↦ λ other. refl
+] refl
+  where
+    none_pinned : (a present before unsettled c : Bool) → present ≡ false → c ≡ true → (a && present && true && true) ≡ (a && before && unsettled && not c)
+    none_pinned true true before unsettled c older gone = cc
+    none_pinned true false before unsettled false older gone = cc
+    none_pinned true false true true true older gone = refl
+    none_pinned true false true false true older gone = refl
+    none_pinned true false false unsettled true older gone = refl
+    none_pinned false present before unsettled c older gone = refl
+
+same_on : {A : Type 0} (p q : A → Bool) (P : A → Type 0) → ((x : A) → P x → p x ≡ q x) → (xs : List A) → AllByRecursion P xs → filter p xs ≡ filter q xs
+same_on p q P same [] all = refl
+same_on p q P same (x ∷ xs) all = ap (λ (b : Bool). cond b (x ∷ filter p xs) (filter p xs)) (same x all.0) ∙ ap (λ ys. cond (q x) (x ∷ ys) ys) (same_on p q P same xs all.1)
+
+-- an Open of a session that has closed leaves the bundles, where numbers rise
+pub bundles_opened : (s n p k : ℕ) (D : List Deed) → NumbersRise (did.Open p k ∷ D) → closed p D ≡ true → bundles (history_of s n (did.Open p k ∷ D)) ≡ bundles (history_of s n D)
+bundles_opened s n p k D rise ended =
+    bundles_more s n (did.Open p k) D
+    ∙ ap (λ (more : List Gift). filter (is_pinned (did.Open p k ∷ D)) (sent (history_of s n D)) ++ filter (is_pinned (did.Open p k ∷ D)) (new_items D (sent (history_of s n D)) more)) (opening_gives_nothing s n p k D (work s n D))
+    ∙ append-nil (filter (is_pinned (did.Open p k ∷ D)) (sent (history_of s n D)))
+    ∙ same_on _ _ (λ (one : SentItem). one.session ≤ number one.to D) (opened_pins p k D rise.0 ended) (sent (history_of s n D)) (sent_sessions s n D rise.1)
+
 -- ---- what is sent has pins at once
 
 count_append : (p k : ℕ) (xs ys : List SentItem) → count_to p k (xs ++ ys) ≡ count_to p k xs + count_to p k ys
@@ -157,6 +195,12 @@ settled_sent s n p k (did.Act q j ∷ D) known settled =
     let before = settled_now s n p k q j D known.0 (settled_sent s n p k D known.1) (q == p && is_settle_of k (item_at q j D)) (is_settled p k D) refl refl settled in
     let more = sent_no_fewer s n p (number p D) (did.Act q j) D in
     omega (arith, before, more)
+settled_sent s n p k (did.Open q j ∷ D) known settled =
+    let more = sent_no_fewer s n p (number p D) (did.Open q j) D in
+    elim (q == p) as (λ (b : Bool). cond b false (is_settled p k D) ≡ true → k ≤ count_to p (cond b j (number p D)) (sent (history_of s n (did.Open q j ∷ D)))) [
+      | true ↦ λ settled. cc
+      | false ↦ λ settled. let before = settled_sent s n p k D known settled in omega (arith, before, more)
+    ] settled
 settled_sent s n p k (deed ∷ D) known settled =
     let before = settled_sent s n p k D known settled in
     let more = sent_no_fewer s n p (number p D) deed D in

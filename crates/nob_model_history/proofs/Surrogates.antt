@@ -2,7 +2,7 @@
 use Rattle.std.proofs.Common.{◌≡◌, ℕ, ◌&&◌, ◌||◌, not, Bool, true, false, cond, List, [], ◌∷◌, ◌++◌, filter, refl, sym, ap, subst, ◌∙◌}
 use Rattle.std.specs.Prelude.{◌==◌}
 use Rattle.std.proofs.lemmas.List.{append-nil}
-use Rattle.std.proofs.lemmas.Bool.{and_left, and_right, or_from}
+use Rattle.std.proofs.lemmas.Bool.{eqb-true, and_left, and_right, or_from}
 use Rattle.nob_ids.specs.Names.{is_same}
 use Rattle.nob_ids.specs.declared.reason.Reason.{Reason}
 use Rattle.nob_ids.specs.declared.wire_rep.WireRep.{WireRep}
@@ -10,8 +10,9 @@ use Rattle.nob_model_types.specs.declared.deed.Deed.{Deed}
 use Rattle.nob_model_types.specs.declared.deed.Deed.TheVariants as did
 use Rattle.nob_model_types.specs.declared.deed.Cause.{Cause}
 use Rattle.nob_item.specs.declared.item.Item.TheVariants as items
+use Rattle.nob_model_types.specs.declared.turns.Turns.{Turns}
 use Rattle.nob_model_types.specs.Sessions.{closed, is_peer}
-use Rattle.nob_model_types.specs.Turns.{turns, is_standing, is_granted, with_clean}
+use Rattle.nob_model_types.specs.Turns.{no_turns, turns, is_standing, is_granted, with_clean}
 use Rattle.nob_model_work.specs.declared.gifts.Gift.{Gift}
 use Rattle.nob_model_work.specs.Work.{work}
 use Rattle.nob_model_work.specs.Gifts.{gifts, gifts_of}
@@ -84,3 +85,18 @@ without_owner true false false = refl
 -- the closing of the session with an owner takes its surrogates out, and no other
 pub surrogates_closed : (s n p : ℕ) (reason : Reason) (cause : Cause) (D : List Deed) → surrogates s n (history_of s n (did.Closing p reason cause ∷ D)) ≡ filter (λ (rep : WireRep). not (p == rep.owner)) (surrogates s n (history_of s n D))
 surrogates_closed s n p reason cause D = surrogates_less s n (did.Closing p reason cause) D (λ (rep : WireRep). p == rep.owner) (closing_asks_nothing s n p reason cause D) (λ rep. without_owner (is_standing (turns s n rep D)) (p == rep.owner) (closed rep.owner D))
+
+-- ---- an Open
+
+opening_asks_nothing : (s n p k : ℕ) (D : List Deed) → asked_in (gifts s n (did.Open p k) D (work s n D)) ≡ []
+unfolding gifts gifts_of
+opening_asks_nothing s n p k D = refl
+
+-- turns that begin anew are no surrogate's, nor were those on a session that had closed
+pub anew_none : (b : Bool) (t : Turns) (ended : Bool) → (b ≡ true → ended ≡ true) → (is_standing (cond b no_turns t) && not (cond b false ended)) ≡ (is_standing t && not ended)
+anew_none true t ended gone = sym (and_right (is_standing t) (not ended) (ap not (gone refl)))
+anew_none false t ended gone = refl
+
+-- an Open of a session that has closed leaves the surrogates
+pub surrogates_opened : (s n p k : ℕ) (D : List Deed) → closed p D ≡ true → surrogates s n (history_of s n (did.Open p k ∷ D)) ≡ surrogates s n (history_of s n D)
+surrogates_opened s n p k D ended = surrogates_kept s n (did.Open p k) D (opening_asks_nothing s n p k D) (λ rep. anew_none (p == rep.owner) (turns s n rep D) (closed rep.owner D) (λ own. subst (λ (q : ℕ). closed q D ≡ true) (eqb-true p rep.owner own) ended))

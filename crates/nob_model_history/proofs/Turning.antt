@@ -12,7 +12,7 @@ use Rattle.nob_model_types.specs.declared.turns.OwnerAnswer.{OwnerAnswer}
 use Rattle.nob_model_types.specs.declared.turns.OwnerAnswer.TheVariants as said
 use Rattle.nob_model_types.specs.declared.turns.Turns.{Turns}
 use Rattle.nob_model_types.specs.Sessions.{item_at}
-use Rattle.nob_model_types.specs.Turns.{is_yes, is_no, is_granted, is_refused, is_pending, is_standing, wants_dirty, with_dirty, with_answer, with_clean, carries, names, turns_after, turns}
+use Rattle.nob_model_types.specs.Turns.{no_turns, is_yes, is_no, is_granted, is_refused, is_pending, is_standing, wants_dirty, with_dirty, with_answer, with_clean, carries, names, turns_after, turns}
 use Rattle.nob_model_history.specs.Premises.{AnswersPending, TookTurns}
 
 -- nothing is asked: as many answers as Dirties, and the last of Dirty and Clean is no Dirty
@@ -155,9 +155,14 @@ clean_shape : (b : Bool) (t : Turns) → (b ≡ true → is_granted t ≡ true) 
 clean_shape true t granted shape = inl (after_clean t (granted refl)).0
 clean_shape false t granted shape = shape
 
+opened_shape : (b : Bool) (t : Turns) → HaveShape t → HaveShape (cond b no_turns t)
+opened_shape true t shape = inl (refl, refl)
+opened_shape false t shape = shape
+
 -- in a list in which client and owner took turns all turns have their shape
 pub shapes : (s n : ℕ) (rep : WireRep) (D : List Deed) → TookTurns s n D → HaveShape (turns s n rep D)
 shapes s n rep [] took = inl (refl, refl)
 shapes s n rep (did.Act p k ∷ D) took = item_shape s n p rep (item_at p k D) D took.0 (shapes s n rep D took.1)
 shapes s n rep (did.Clean other ∷ D) took = clean_shape (is_same rep other) (turns s n rep D) (λ same. subst (λ (r : WireRep). is_granted (turns s n r D) ≡ true) (sym (same_ref rep other same)) took.0) (shapes s n rep D took.1)
+shapes s n rep (did.Open q k ∷ D) took = opened_shape (q == rep.owner) (turns s n rep D) (shapes s n rep D took)
 shapes s n rep (deed ∷ D) took = shapes s n rep D took

@@ -1,8 +1,9 @@
 -- Deeds that ask for nothing, and those that leave the surrogates as they were.
 use Rattle.std.proofs.Common.{◌≡◌, ℕ, ◌&&◌, ◌||◌, not, Bool, true, false, cond, List, [], ◌∷◌, ◌++◌, filter, find, Option, Some, None, refl, sym, ap, subst, ◌∙◌, ◌⊎◌, inl, inr}
+use Rattle.std.specs.Prelude.{◌==◌}
 use Rattle.std.specs.List.{AllByRecursion, cons_option}
 use Rattle.std.proofs.lemmas.List.{append-nil}
-use Rattle.std.proofs.lemmas.Bool.{or_left, or_right}
+use Rattle.std.proofs.lemmas.Bool.{eqb-true, not-false, or_left, or_right}
 use Rattle.nob_ids.specs.declared.wire_rep.WireRep.{WireRep}
 use Rattle.nob_item.specs.declared.item.Item.{Item}
 use Rattle.nob_item.specs.declared.item.Item.TheVariants as items
@@ -25,7 +26,7 @@ use Rattle.nob_model_history.specs.Histories.{history_of}
 use Rattle.nob_model_history.specs.Premises.{AnswersPending, TookTurns}
 use Rattle.nob_model_history.specs.Transit.{asks_for, dirties, surrogates}
 use Rattle.nob_model_history.proofs.Dirtying.{asked_in, dirties_more}
-use Rattle.nob_model_history.proofs.Surrogates.{has_surrogate, surrogates_kept}
+use Rattle.nob_model_history.proofs.Surrogates.{has_surrogate, anew_none, surrogates_kept}
 use Rattle.nob_model_history.proofs.Turning.{after_answer, named_ref}
 
 -- whether an item is a Call or a Reply
@@ -130,11 +131,12 @@ dirties_same s n deed D none = dirties_more s n deed D ∙ ap (λ (reps : List W
 
 -- ---- surrogates
 
--- whether a deed may change the surrogates: an Act on a Call or a Reply, a Clean, a closing
+-- whether a deed may change the surrogates: an Act on a Call or a Reply, a Clean, a closing, an Open of a session that is open
 abbrev pub moves_surrogates : Deed → List Deed → Bool
 moves_surrogates (did.Act p k) D = is_message (item_at p k D)
 moves_surrogates (did.Clean rep) D = true
 moves_surrogates (did.Closing p reason cause) D = true
+moves_surrogates (did.Open p k) D = not (closed p D)
 moves_surrogates (_) D = false
 
 still_asks_nothing : (deed : Deed) (D : List Deed) → moves_surrogates deed D ≡ false → acts_on_message deed D ≡ false
@@ -168,8 +170,9 @@ surrogate_same : (s n : ℕ) (deed : Deed) (D : List Deed) → TookTurns s n (de
 surrogate_same s n (did.Act p k) D took none rep = ap (λ (b : Bool). b && not (closed rep.owner D)) (item_standing s n p rep (item_at p k D) D took.0 none)
 surrogate_same s n (did.Clean other) D took none rep = cc
 surrogate_same s n (did.Closing p reason cause) D took none rep = cc
+surrogate_same s n (did.Open p k) D took none rep = anew_none (p == rep.owner) (turns s n rep D) (closed rep.owner D) (λ own. subst (λ (q : ℕ). closed q D ≡ true) (eqb-true p rep.owner own) (not-false (closed p D) none))
 surrogate_same s n deed D took none rep = refl
 
--- where client and owner took turns no deed but an Act on a Call or a Reply, a Clean and a closing changes the surrogates
+-- where client and owner took turns no deed but an Act on a Call or a Reply, a Clean, a closing and an Open of an open session changes the surrogates
 pub surrogates_same : (s n : ℕ) (deed : Deed) (D : List Deed) → TookTurns s n (deed ∷ D) → moves_surrogates deed D ≡ false → surrogates s n (history_of s n (deed ∷ D)) ≡ surrogates s n (history_of s n D)
 surrogates_same s n deed D took none = surrogates_kept s n deed D (asks_nothing s n deed D (still_asks_nothing deed D none)) (surrogate_same s n deed D took none)

@@ -11,3 +11,4 @@ pub mod Holds
 pub mod Transit
 pub mod Listing
 pub mod Premises
+pub mod Anew

@@ -1,5 +1,5 @@
 -- What holds of every list of right answers, as far as the laws of one deed more need it: nob_model proves that it does.
-use Rattle.std.specs.Prelude.{◌≡◌, ◌≤◌, ⊤, ℕ, ◌+◌, true, List, [], ◌∷◌, length, Option, Some, Ok}
+use Rattle.std.specs.Prelude.{◌≡◌, ◌≤◌, ◌<◌, ⊤, ℕ, ◌+◌, true, List, [], ◌∷◌, length, Option, Some, Ok}
 use Rattle.nob_item.specs.declared.item.Item.{Item}
 use Rattle.nob_item.specs.declared.item.Item.TheVariants as items
 use Rattle.nob_model_session.specs.Accepting.{AcceptsWhatCame}
@@ -9,7 +9,7 @@ use Rattle.nob_model_types.specs.Sessions.{number, item_at}
 use Rattle.nob_model_types.specs.Objects.{exports, is_live}
 use Rattle.nob_model_types.specs.Turns.{turns, is_pending, is_granted}
 use Rattle.nob_model_types.specs.declared.deed.Deed.{Deed}
-use Rattle.nob_model_types.specs.declared.deed.Deed.TheVariants.{Export, Withdraw, Arrive, Act, Clean}
+use Rattle.nob_model_types.specs.declared.deed.Deed.TheVariants.{Export, Withdraw, Arrive, Act, Clean, Open}
 use Rattle.nob_model_history.specs.Histories.{history_of}
 use Rattle.nob_model_history.specs.Ends.{calls_at}
 use Rattle.nob_model_history.specs.Transit.{count_to, sent, is_settle_of}
@@ -23,6 +23,12 @@ AcceptsNext s n (_) D = ⊤
 abbrev pub InTurn : (s n : ℕ) → List Deed → Type 0
 InTurn s n [] = ⊤
 InTurn s n (deed ∷ D) = AcceptsNext s n deed D × InTurn s n D
+
+-- each session was opened anew under a number above the one before
+abbrev pub NumbersRise : List Deed → Type 0
+NumbersRise [] = ⊤
+NumbersRise (Open p k ∷ D) = (number p D < k) × NumbersRise D
+NumbersRise (_ ∷ D) = NumbersRise D
 
 -- each Settle that was acted on was of an item that was sent before
 abbrev pub SettlesSent : (s n : ℕ) → List Deed → Type 0

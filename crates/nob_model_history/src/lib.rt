@@ -7,6 +7,7 @@
 pub mod ends;
 mod history;
 pub mod holds;
+pub mod laws;
 pub mod listing;
 pub mod transit;
 
