@@ -51,6 +51,8 @@ deed_typed (events.Tick peer) (answers.Closed reason) deed fits is = let same : 
 deed_typed (events.Tick peer) _ deed fits is = absurd cc
 deed_typed (events.Close peer) (answers.Closed reason) deed fits is = let same : did.Closing peer reason causes.Asked ≡ deed = cc in subst HandsTyped same tt
 deed_typed (events.Close peer) _ deed fits is = absurd cc
+deed_typed (events.Open peer) (answers.Opened number) deed fits is = let same : did.Open peer number ≡ deed = cc in subst HandsTyped same tt
+deed_typed (events.Open peer) _ deed fits is = absurd cc
 
 -- an entry of an answered event
 pub entry_typed : (s : ℕ) (stamped : Stamped) (answer : Answer) → HandsOnFitting stamped.event (Ok answer) → stamped.result ≡ Ok answer → IsOfTypes (entry_at s stamped)

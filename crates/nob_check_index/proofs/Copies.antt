@@ -1,6 +1,6 @@
 -- The rows say which copies of a reference came.
 use Rattle.std.proofs.Common.{◌≡◌, ◌&&◌, ◌||◌, ◌++◌, ℕ, Bool, true, false, cond, List, [], ◌∷◌, Option, Some, None, refl, sym, ap, subst, ◌∙◌}
-use Rattle.std.specs.Prelude.{reverse}
+use Rattle.std.specs.Prelude.{◌==◌, reverse}
 use Rattle.std.specs.List.{list_any}
 use Rattle.std.specs.Map.{lookup}
 use Rattle.nob_ids.specs.Names.{is_same}
@@ -8,7 +8,7 @@ use Rattle.nob_ids.specs.declared.wire_rep.WireRep.{WireRep}
 use Rattle.nob_item.specs.Kinds.{counted_in}
 use Rattle.nob_item.specs.declared.item.Item.{Item}
 use Rattle.nob_model_types.specs.declared.deed.Deed.{Deed}
-use Rattle.nob_model_types.specs.declared.deed.Deed.TheVariants.{Act, Clean}
+use Rattle.nob_model_types.specs.declared.deed.Deed.TheVariants.{Act, Clean, Open}
 use Rattle.nob_model_types.specs.Sessions.{number, item_at}
 use Rattle.nob_model_types.specs.Turns.{turns}
 use Rattle.nob_model_history.proofs.Dirtying.{same_self}
@@ -18,7 +18,7 @@ use Rattle.nob_check_tables.specs.Came.{item_in}
 use Rattle.nob_check_tables.specs.Numbers.{number_in}
 use Rattle.nob_check_tables.specs.Rows.{turns_in}
 use Rattle.nob_check_tables.specs.Tables.{tables_of}
-use Rattle.nob_check_tables.proofs.Looking.{put_at, put_twice}
+use Rattle.nob_check_tables.proofs.Looking.{put_at, put_twice, found_without}
 use Rattle.nob_check_tables.proofs.Sessions.{number_is, item_is}
 use Rattle.nob_check_tables.proofs.Turning.{turns_are}
 use Rattle.nob_check_index.specs.Sources.{found_sources, sources_in, with_sources, with_source, with_copies, with_item, sources_with_clean, sources_of}
@@ -132,4 +132,13 @@ sources_are s n r (Clean rep ∷ D) =
     given_up r rep (turns_in rep (tables_of s n D).rows).asks (sources_of s n D)
     ∙ (λ i. cond (asks_of s n r rep D i) [] (sources_are s n r D i))
     ∙ none_turned (is_same r rep && (turns s n r D).asks) (sources s n r D)
+sources_are s n r (Open q k ∷ D) =
+    ap found_sources (found_without (is_same r) (λ (rep : WireRep). q == rep.owner) (q == r.owner) (λ rep is. ap (λ (x : WireRep). q == x.owner) (sym (same_rep r rep is))) (sources_of s n D))
+    ∙ by (q == r.owner)
+    ∙ ap (λ (came : List Source). cond (q == r.owner) [] came) (sources_are s n r D)
+    ∙ none_turned (q == r.owner) (sources s n r D)
+  where
+    by : (b : Bool) → found_sources (cond b None (lookup (is_same r) (sources_of s n D))) ≡ cond b [] (sources_in r (sources_of s n D))
+    by true = refl
+    by false = refl
 sources_are s n r (_ ∷ D) = sources_are s n r D

@@ -1,14 +1,15 @@
 -- The settlements say which items were settled.
-use Rattle.std.proofs.Common.{◌≡◌, ◌&&◌, ◌||◌, ℕ, Bool, true, false, List, [], ◌∷◌, Option, Some, None, refl, ◌∙◌}
+use Rattle.std.proofs.Common.{◌≡◌, ◌&&◌, ◌||◌, ℕ, Bool, true, false, cond, List, [], ◌∷◌, Option, Some, None, refl, sym, ap, ◌∙◌}
 use Rattle.std.specs.Prelude.{◌==◌}
 use Rattle.std.proofs.lemmas.Bool.{eqb-true, and_parts}
 use Rattle.nob_item.specs.declared.item.Item.{Item}
 use Rattle.nob_item.specs.declared.item.Item.TheVariants as items
 use Rattle.nob_model_types.specs.declared.deed.Deed.{Deed}
-use Rattle.nob_model_types.specs.declared.deed.Deed.TheVariants.{Act}
+use Rattle.nob_model_types.specs.declared.deed.Deed.TheVariants.{Act, Open}
 use Rattle.nob_model_history.specs.Transit.{is_settle_of, is_settled}
 use Rattle.nob_check_tables.specs.Came.{item_in}
 use Rattle.nob_check_tables.specs.Tables.{tables_of}
+use Rattle.nob_check_tables.proofs.Looking.{any_without}
 use Rattle.nob_check_tables.proofs.Sessions.{item_is}
 use Rattle.nob_check_index.specs.Settlements.{is_same_settlement, is_settlement, with_item, settlements_of}
 use Rattle.nob_check_index.specs.declared.settlements.Settlement.{Settlement}
@@ -45,4 +46,7 @@ settled_is s n p k [] = refl
 settled_is s n p k (Act q j ∷ D) =
     settled_with p k q (item_in q j (tables_of s n D).came) (settlements_of s n D)
     ∙ (λ i. (q == p && is_settle_of k (item_is s n q j D i)) || settled_is s n p k D i)
+settled_is s n p k (Open q j ∷ D) =
+    any_without (is_same_settlement (record { peer = p; number = k })) (λ (one : Settlement). q == one.peer) (q == p) (λ one is. ap (λ (x : Settlement). q == x.peer) (sym (same_settlement (record { peer = p; number = k }) one is))) (settlements_of s n D)
+    ∙ ap (λ (b : Bool). cond (q == p) false b) (settled_is s n p k D)
 settled_is s n p k (_ ∷ D) = settled_is s n p k D

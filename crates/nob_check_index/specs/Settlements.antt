@@ -1,11 +1,11 @@
 -- Which items that a space sent were settled: their Settle came and was acted on.
-use Rattle.std.specs.Prelude.{ℕ, Bool, ◌&&◌, ◌==◌, List, [], ◌∷◌, Option, Some, None}
+use Rattle.std.specs.Prelude.{ℕ, Bool, ◌&&◌, ◌==◌, not, List, [], ◌∷◌, filter, Option, Some, None}
 use Rattle.std.specs.List.{list_any}
 use Rattle.indexmap.specs.IndexSet.{insert_key}
 use Rattle.nob_item.specs.declared.item.Item.{Item}
 use Rattle.nob_item.specs.declared.item.Item.TheVariants as items
 use Rattle.nob_model_types.specs.declared.deed.Deed.{Deed}
-use Rattle.nob_model_types.specs.declared.deed.Deed.TheVariants.{Act}
+use Rattle.nob_model_types.specs.declared.deed.Deed.TheVariants.{Act, Open}
 use Rattle.nob_check_tables.specs.Came.{item_in}
 use Rattle.nob_check_tables.specs.Tables.{tables_of}
 use Rattle.nob_check_tables.specs.declared.came.Arrival.{Arrival}
@@ -34,9 +34,14 @@ with_item p (Some (items.DirtyOk index)) settlements = settlements
 with_item p (Some (items.DirtyNo index)) settlements = settlements
 with_item p (Some (items.Clean index)) settlements = settlements
 
+-- these without those of p
+abbrev pub without_peer : ℕ → List Settlement → List Settlement
+without_peer p settlements = filter (λ settlement. not (p == settlement.peer)) settlements
+
 -- these after a deed, by what came before it
 abbrev pub settlements_after : Deed → List (Arrival × Option Item) → List Settlement → List Settlement
 settlements_after (Act p k) came settlements = with_item p (item_in p k came) settlements
+settlements_after (Open p k) came settlements = without_peer p settlements
 settlements_after (_) came settlements = settlements
 
 -- the items that were settled at space s, among n

@@ -1,6 +1,6 @@
--- Which copies of a reference came since it was given up last, the first first: who sent each, in which session, and in
--- which item.
-use Rattle.std.specs.Prelude.{ℕ, Bool, not, List, [], ◌∷◌, ◌++◌, Option, Some, None, if◌then◌else◌}
+-- Which copies of a reference came since it was given up last, or the session with its owner was opened anew, the first
+-- first: who sent each, in which session, and in which item.
+use Rattle.std.specs.Prelude.{ℕ, Bool, not, ◌==◌, List, [], ◌∷◌, ◌++◌, filter, Option, Some, None, if◌then◌else◌}
 use Rattle.std.specs.List.{list_any}
 use Rattle.std.specs.Map.{lookup}
 use Rattle.indexmap.specs.IndexMap.{insert_entry}
@@ -9,7 +9,7 @@ use Rattle.nob_ids.specs.declared.wire_rep.WireRep.{WireRep}
 use Rattle.nob_item.specs.Kinds.{counted_in}
 use Rattle.nob_item.specs.declared.item.Item.{Item}
 use Rattle.nob_model_types.specs.declared.deed.Deed.{Deed}
-use Rattle.nob_model_types.specs.declared.deed.Deed.TheVariants.{Act, Clean}
+use Rattle.nob_model_types.specs.declared.deed.Deed.TheVariants.{Act, Clean, Open}
 use Rattle.nob_model_journal.specs.declared.losses.Source.{Source}
 use Rattle.nob_check_tables.specs.Came.{item_in}
 use Rattle.nob_check_tables.specs.Numbers.{number_in}
@@ -48,10 +48,15 @@ with_item source (Some item) rows = with_copies source (counted_in item) rows
 abbrev pub sources_with_clean : WireRep → Bool → List (WireRep × List Source) → List (WireRep × List Source)
 sources_with_clean rep asks rows = if not asks then rows else with_sources rep [] rows
 
+-- the rows without those of the references that p owns
+abbrev pub without_rows : ℕ → List (WireRep × List Source) → List (WireRep × List Source)
+without_rows p rows = filter (λ row. not (p == row.0.owner)) rows
+
 -- the rows after a deed, by the tables before it
 abbrev pub sources_after : Deed → Tables → List (WireRep × List Source) → List (WireRep × List Source)
 sources_after (Act p k) tables rows = with_item (record { from = p; session = number_in p tables.numbers; number = k }) (item_in p k tables.came) rows
 sources_after (Clean rep) tables rows = sources_with_clean rep (turns_in rep tables.rows).asks rows
+sources_after (Open p k) tables rows = without_rows p rows
 sources_after (_) tables rows = rows
 
 -- the rows of space s, among n, that did this

@@ -170,8 +170,9 @@ impl DeedIndex {
         self.lookups.more.traffic.settlements.has(peer, number)
     }
 
-    /// The copies of a reference that were acted on since it was given up last, the first first:
-    /// who sent each, in which session, and in which item. Constant time on average.
+    /// The copies of a reference that were acted on since it was given up last, or the session with
+    /// its owner was opened anew, the first first: who sent each, in which session, and in which
+    /// item. Constant time on average.
     pub fn sources(&self, rep: &WireRep) -> &[Source]
         ensures value { result.now ≡ reverse
             (losses.sources self.now.here.space self.now.here.n rep.now self.now.deeds) }

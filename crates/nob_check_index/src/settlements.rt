@@ -21,8 +21,8 @@ pub struct Settlement {
     pub number: u64,
 }
 
-/// The items whose Settle was acted on, each once. Contracts see the list, in the order in which
-/// they were put in.
+/// The items whose Settle was acted on in the session with their receiver, each once. Contracts see
+/// the list, in the order in which they were put in.
 pub struct Settlements {
     set: IndexSet<Settlement>,
 }
@@ -72,6 +72,24 @@ impl Settlements {
         set.insert(settlement)?;
         Ok(Settlements { set })
     }
+
+    // These without those of a peer. Linear in them.
+    fn without_peer(self, peer: SpaceId) -> Settlements
+        ensures { result ≡ words.without_peer peer self }
+    {
+        let Settlements { set } = self;
+        Settlements {
+            set: others(peer, set),
+        }
+    }
+}
+
+// Those of the other peers.
+fn others(peer: SpaceId, mut set: IndexSet<Settlement>) -> IndexSet<Settlement>
+    ensures { result.keys ≡ words.without_peer peer set.keys }
+{
+    set.retain(|settlement| peer != settlement.peer);
+    set
 }
 
 // These once an item from a peer was acted on.
@@ -96,7 +114,7 @@ fn with_item(
 }
 
 /// These after a deed, by the items that came before it. Only memory fails it. It looks up the item
-/// that is acted on.
+/// that is acted on. Where a session opens anew, it walks all of them.
 pub fn settlements_after(
     deed: &Deed,
     came: &Came,
@@ -109,6 +127,7 @@ pub fn settlements_after(
             let item = came.item_at(*from, *number);
             with_item(*from, item, settlements)
         }
+        Deed::Open(peer, _) => Ok(settlements.without_peer(*peer)),
         _ => Ok(settlements),
     }
 }

@@ -8,7 +8,7 @@ ghost use Rattle.nob_check_index.specs.Sources as words;
 
 use indexmap::IndexMap;
 use nob_check_tables::Tables;
-use nob_ids::WireRep;
+use nob_ids::{SpaceId, WireRep};
 use nob_item::Item;
 use nob_model_journal::Source;
 use nob_model_types::Deed;
@@ -67,8 +67,8 @@ fn found_sources(alloc: Global, copies: Option<Sources>) -> Sources
     }
 }
 
-/// Which copies of each reference came since it was given up last. Contracts see the rows, in the
-/// order in which the references came.
+/// Which copies of each reference came since it was given up last, or the session with its owner was
+/// opened anew. Contracts see the rows, in the order in which the references came.
 pub struct SourceRows {
     map: IndexMap<WireRep, Sources>,
 }
@@ -130,6 +130,24 @@ impl SourceRows {
         map.insert(rep, copies)?;
         Ok(SourceRows { map })
     }
+
+    // These without those of the references that a peer owns. Linear in the rows.
+    fn without_rows(self, peer: SpaceId) -> SourceRows
+        ensures { result ≡ words.without_rows peer self }
+    {
+        let SourceRows { map } = self;
+        SourceRows {
+            map: others(peer, map),
+        }
+    }
+}
+
+// The rows of the references that others own.
+fn others(peer: SpaceId, mut map: IndexMap<WireRep, Sources>) -> IndexMap<WireRep, Sources>
+    ensures { result.entries ≡ words.without_rows peer map.entries }
+{
+    map.retain(|rep, _| peer != rep.owner);
+    map
 }
 
 // The rows once a copy of a reference came.
@@ -210,7 +228,7 @@ fn sources_with_clean(
 }
 
 /// These after a deed, by the tables before it. Only memory fails it. It looks up the item that is
-/// acted on and each reference in it.
+/// acted on and each reference in it. Where a session opens anew, it walks all rows.
 pub fn sources_after(
     alloc: Global,
     deed: &Deed,
@@ -230,6 +248,7 @@ pub fn sources_after(
             with_item(alloc, &source, item, rows)
         }
         Deed::Clean(rep) => sources_with_clean(alloc, rep, tables.rows.turns(rep).asks, rows),
+        Deed::Open(peer, _) => Ok(rows.without_rows(*peer)),
         _ => Ok(rows),
     }
 }

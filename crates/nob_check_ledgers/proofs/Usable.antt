@@ -8,11 +8,11 @@ use Rattle.nob_ids.specs.declared.wire_rep.WireRep.{WireRep}
 use Rattle.nob_item.specs.declared.item.Item.{Item}
 use Rattle.nob_item.specs.declared.item.Item.TheVariants as items
 use Rattle.nob_model_types.specs.declared.deed.Deed.{Deed}
-use Rattle.nob_model_types.specs.declared.deed.Deed.TheVariants.{Act, Clean, Closing}
+use Rattle.nob_model_types.specs.declared.deed.Deed.TheVariants.{Act, Clean, Closing, Open}
 use Rattle.nob_model_types.specs.declared.turns.OwnerAnswer.TheVariants as said
 use Rattle.nob_model_types.specs.declared.turns.Turns.{Turns}
 use Rattle.nob_model_types.specs.Sessions.{closed, item_at}
-use Rattle.nob_model_types.specs.Turns.{turns, turns_after, is_granted, is_usable, is_own, names, carries, wants_dirty, with_dirty, with_answer, with_clean}
+use Rattle.nob_model_types.specs.Turns.{no_turns, turns, turns_after, is_granted, is_usable, is_own, names, carries, wants_dirty, with_dirty, with_answer, with_clean}
 use Rattle.nob_model_history.proofs.Turning.{same_ref}
 use Rattle.nob_check_ledgers.specs.Making.{can_lend, named_in, named_by, makes_usable}
 
@@ -72,6 +72,10 @@ usable_before s n rep (Clean other) D none usable = elim (is_same rep other) as 
 usable_before s n rep (Closing q reason cause) D none usable =
     let parts = and_parts (is_granted (turns s n rep D)) (not (q == rep.owner || closed rep.owner D)) usable in
     and_from (is_granted (turns s n rep D)) (not (closed rep.owner D)) parts.0 (not_second (q == rep.owner) (closed rep.owner D) parts.1)
+usable_before s n rep (Open q k) D none usable = elim (q == rep.owner) as (λ b. (is_granted (if b then no_turns else turns s n rep D) && not (if b then false else closed rep.owner D)) ≡ true → is_usable s n rep D ≡ true) [
+  | true ↦ λ h. absurd (true≢false (sym h))
+  | false ↦ λ h. h
+] usable
 usable_before s n rep (_) D none usable = usable
 
 -- a reference that a deed names, where the deed makes none usable

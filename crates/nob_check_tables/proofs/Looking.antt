@@ -1,5 +1,6 @@
--- What is found in a list of pairs after one was put in.
-use Rattle.std.proofs.Common.{◌≡◌, Bool, true, false, cond, List, [], ◌∷◌, Some, if◌then◌else◌, refl, sym, ap, subst, true≢false, ◌∙◌}
+-- What is found in a list of pairs after one was put in, and once some are cut.
+use Rattle.std.proofs.Common.{◌≡◌, ◌||◌, not, Bool, true, false, cond, List, [], ◌∷◌, filter, Option, Some, None, if◌then◌else◌, refl, sym, ap, subst, true≢false, ◌∙◌}
+use Rattle.std.specs.List.{list_any}
 use Rattle.std.specs.Map.{lookup}
 use Rattle.indexmap.specs.IndexMap.{insert_entry}
 
@@ -42,3 +43,62 @@ put_twice {K} {V} eq own k v w (e ∷ es) = by (put_twice eq own k v w es) (eq k
         ∙ ap (λ (b : Bool). if b then (e.0, w) ∷ insert_entry eq es k v else e ∷ insert_entry eq (insert_entry eq es k v) k w) other
         ∙ ap (λ (xs : List (K × V)). e ∷ xs) rest
         ∙ sym (ap (λ (b : Bool). if b then (e.0, w) ∷ es else e ∷ insert_entry eq es k w) other)
+
+-- ---- what is cut
+
+module _ {K : Type 0} (look cut : K → Bool) (gone : Bool) (agree : (k : K) → look k ≡ true → cut k ≡ gone) where
+  none_there : {V : Type 0} (b : Bool) → None {V} ≡ cond b None None
+  none_there true = refl
+  none_there false = refl
+
+  -- nothing is found where the keys that are looked for are cut, and where others are, what was
+  pub found_without : {V : Type 0} (es : List (K × V)) → lookup look (filter (λ e. not (cut e.0)) es) ≡ cond gone None (lookup look es)
+  found_without [] = none_there gone
+  found_without {V} (e ∷ es) = by (found_without es) (cut e.0) (look e.0) refl refl
+    where
+      rest : List (K × V)
+      rest = filter (λ e. not (cut e.0)) es
+
+      left : Bool → Option V
+      left b = lookup look (cond (not b) (e ∷ rest) rest)
+
+      whole : Bool → Bool → Option V
+      whole b found = cond b None (cond found (Some e.1) (lookup look es))
+
+      by : lookup look rest ≡ cond gone None (lookup look es) → (t u : Bool) → cut e.0 ≡ t → look e.0 ≡ u → lookup look (filter (λ e. not (cut e.0)) (e ∷ es)) ≡ cond gone None (lookup look (e ∷ es))
+      by others true true out here =
+          let all : gone ≡ true = sym (agree e.0 here) ∙ out in
+          ap left out ∙ others ∙ ap (λ (b : Bool). cond b None (lookup look es)) all ∙ sym (ap (λ (b : Bool). whole b (look e.0)) all)
+      by others true false out other = ap left out ∙ others ∙ sym (ap (whole gone) other)
+      by others false true stays here =
+          let none : gone ≡ false = sym (agree e.0 here) ∙ stays in
+          ap left stays ∙ ap (λ (b : Bool). cond b (Some e.1) (lookup look rest)) here ∙ sym (ap (λ (b : Bool). whole b (look e.0)) none ∙ ap (whole false) here)
+      by others false false stays other = ap left stays ∙ ap (λ (b : Bool). cond b (Some e.1) (lookup look rest)) other ∙ others ∙ sym (ap (whole gone) other)
+
+  nothing_there : (b : Bool) → false ≡ cond b false false
+  nothing_there true = refl
+  nothing_there false = refl
+
+  -- the same of keys alone
+  pub any_without : (ks : List K) → list_any look (filter (λ k. not (cut k)) ks) ≡ cond gone false (list_any look ks)
+  any_without [] = nothing_there gone
+  any_without (k ∷ ks) = by (any_without ks) (cut k) (look k) refl refl
+    where
+      rest : List K
+      rest = filter (λ k. not (cut k)) ks
+
+      left : Bool → Bool
+      left b = list_any look (cond (not b) (k ∷ rest) rest)
+
+      whole : Bool → Bool → Bool
+      whole b found = cond b false (found || list_any look ks)
+
+      by : list_any look rest ≡ cond gone false (list_any look ks) → (t u : Bool) → cut k ≡ t → look k ≡ u → list_any look (filter (λ k. not (cut k)) (k ∷ ks)) ≡ cond gone false (list_any look (k ∷ ks))
+      by others true true out here =
+          let all : gone ≡ true = sym (agree k here) ∙ out in
+          ap left out ∙ others ∙ ap (λ (b : Bool). cond b false (list_any look ks)) all ∙ sym (ap (λ (b : Bool). whole b (look k)) all)
+      by others true false out other = ap left out ∙ others ∙ sym (ap (whole gone) other)
+      by others false true stays here =
+          let none : gone ≡ false = sym (agree k here) ∙ stays in
+          ap left stays ∙ ap (λ (b : Bool). b || list_any look rest) here ∙ sym (ap (λ (b : Bool). whole b (look k)) none ∙ ap (whole false) here)
+      by others false false stays other = ap left stays ∙ ap (λ (b : Bool). b || list_any look rest) other ∙ others ∙ sym (ap (whole gone) other)

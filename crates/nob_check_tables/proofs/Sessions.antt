@@ -2,6 +2,7 @@
 use Rattle.std.proofs.Common.{◌≡◌, ◌+◌, ◌&&◌, ◌||◌, not, ℕ, Bool, true, false, cond, List, [], ◌∷◌, Option, Some, None, is_some, refl, sym, ap, subst, true≢false, ◌∙◌}
 use Rattle.std.specs.Prelude.{◌==◌, option_and_then}
 use Rattle.std.specs.Map.{lookup}
+use Rattle.std.specs.Cmp.{both_ways}
 use Rattle.std.specs.Option.{option_map, option_or}
 use Rattle.std.proofs.lemmas.Bool.{and_parts, and_from, eqb-true, eq-eqb}
 use Rattle.indexmap.specs.IndexMap.{insert_entry}
@@ -11,21 +12,33 @@ use Rattle.nob_model_session.specs.End.{is_in_reach}
 use Rattle.nob_item.specs.declared.item.Item.{Item}
 use Rattle.nob_model_session.specs.End.{brings_at}
 use Rattle.nob_model_types.specs.declared.deed.Deed.{Deed}
-use Rattle.nob_model_types.specs.declared.deed.Deed.TheVariants.{Arrive, Closing}
+use Rattle.nob_model_types.specs.declared.deed.Deed.TheVariants.{Arrive, Closing, Open}
 use Rattle.nob_model_types.specs.Sessions.{closed, number, is_from, accepted_from, payload_at, item_spelt, item_at}
 use Rattle.nob_check_tables.specs.Closed.{is_among, with_peer}
-use Rattle.nob_check_tables.specs.Numbers.{number_in}
+use Rattle.nob_check_tables.specs.Numbers.{found_number, number_in, with_number}
 use Rattle.nob_check_tables.specs.Taken.{is_present, found_count, taken_from, with_taken}
 use Rattle.nob_check_tables.specs.Came.{is_same_arrival, found_item, came_at, item_in, with_item, with_frame}
 use Rattle.nob_check_tables.specs.Tables.{tables_of}
 use Rattle.nob_check_tables.specs.declared.came.Arrival.{Arrival}
-use Rattle.nob_check_tables.proofs.Looking.{put_at}
+use Rattle.nob_check_tables.proofs.Looking.{put_at, any_without, found_without}
 
 -- ---- sessions
+
+-- the number of the session with p once that with q has another
+numbered_with : (p q k : ℕ) (numbers : List (ℕ × ℕ)) → number_in p (with_number q k numbers) ≡ cond (q == p) k (number_in p numbers)
+numbered_with p q k numbers =
+    ap found_number (put_at (λ a b. a == b) (λ a b. eqb-true a b) (λ a. eq-eqb a a refl) p q k numbers)
+    ∙ by (p == q)
+    ∙ ap (λ (b : Bool). cond b k (number_in p numbers)) (both_ways (p == q) (q == p) (λ e. eq-eqb q p (sym (eqb-true p q e))) (λ e. eq-eqb p q (sym (eqb-true q p e))))
+  where
+    by : (b : Bool) → found_number (cond b (Some k) (lookup (λ other. p == other) numbers)) ≡ cond b k (number_in p numbers)
+    by true = refl
+    by false = refl
 
 -- the number of the session with p
 pub number_is : (s n p : ℕ) (D : List Deed) → number_in p (tables_of s n D).numbers ≡ number p D
 number_is s n p [] = refl
+number_is s n p (Open q k ∷ D) = numbered_with p q k (tables_of s n D).numbers ∙ ap (λ (m : ℕ). cond (q == p) k m) (number_is s n p D)
 number_is s n p (_ ∷ D) = number_is s n p D
 
 among_with : (p q : ℕ) (peers : List ℕ) → is_among p (with_peer q peers) ≡ ((q == p) || is_among p peers)
@@ -43,6 +56,9 @@ among_with p q peers = by (is_among q peers) refl
 pub closed_is : (s n p : ℕ) (D : List Deed) → is_among p (tables_of s n D).closed ≡ closed p D
 closed_is s n p [] = refl
 closed_is s n p (Closing q reason cause ∷ D) = among_with p q (tables_of s n D).closed ∙ ap (λ (b : Bool). (q == p) || b) (closed_is s n p D)
+closed_is s n p (Open q k ∷ D) =
+    any_without (λ (other : ℕ). other == p) (λ (other : ℕ). q == other) (q == p) (λ other is. ap (λ (x : ℕ). q == x) (eqb-true other p is)) (tables_of s n D).closed
+    ∙ ap (λ (b : Bool). cond (q == p) false b) (closed_is s n p D)
 closed_is s n p (_ ∷ D) = closed_is s n p D
 
 -- ---- counts
@@ -94,6 +110,14 @@ taken_is s n p (Arrive frame count ∷ D) =
         ∙ sym (ap (λ (t : Bool). cond (t && true) (count + accepted_from p D) (accepted_from p D)) one)
     by true false true one two same = absurd (true≢false (sym (eq-eqb frame.from p (sym (eqb-true p frame.from two))) ∙ one))
     by true true false one two same = absurd (true≢false (sym (eq-eqb p frame.from (sym (eqb-true frame.from p one))) ∙ two))
+taken_is s n p (Open q k ∷ D) =
+    ap found_count (found_without (λ (other : ℕ). p == other) (λ (other : ℕ). q == other) (q == p) (λ other is. ap (λ (x : ℕ). q == x) (sym (eqb-true p other is))) (tables_of s n D).taken)
+    ∙ by (q == p)
+    ∙ ap (λ (count : ℕ). cond (q == p) 0 count) (taken_is s n p D)
+  where
+    by : (b : Bool) → found_count (cond b None (lookup (λ other. p == other) (tables_of s n D).taken)) ≡ cond b 0 (taken_from p (tables_of s n D).taken)
+    by true = refl
+    by false = refl
 taken_is s n p (_ ∷ D) = taken_is s n p D
 
 -- ---- items
@@ -234,6 +258,10 @@ spelt_or None true bytes = refl
 spelt_or None false bytes = refl
 spelt_or (Some y) b bytes = refl
 
+spelt_none : (b : Bool) (x : Option (List ℕ)) → cond b None (option_map item_spelt x) ≡ option_map item_spelt (cond b None x)
+spelt_none true x = refl
+spelt_none false x = refl
+
 -- the same where it is of the session with its sender, and nothing where it is of another
 came_if : (present : Bool) (s n p k : ℕ) (frame : Frame) (D : List Deed) → came_at p k (cond present (with_frame frame (taken_from frame.from (tables_of s n D).taken) (tables_of s n D).came) (tables_of s n D).came) ≡ option_or (came_at p k (tables_of s n D).came) (cond (present && brings p k frame D) (Some (item_spelt frame.payload)) None)
 came_if true s n p k frame D =
@@ -261,6 +289,10 @@ came_is s n p k (Arrive frame count ∷ D) =
     ∙ ap (λ (b : Bool). option_or (came_at p k (tables_of s n D).came) (cond b (Some (item_spelt frame.payload)) None)) (brought_is s n p k frame D)
     ∙ ap (λ (x : Option (Option Item)). option_or x (cond test (Some (item_spelt frame.payload)) None)) (came_is s n p k D)
     ∙ spelt_or (payload_at p k D) test frame.payload
+came_is s n p k (Open q j ∷ D) =
+    found_without (is_same_arrival (record { from = p; number = k })) (λ (a : Arrival). q == a.from) (q == p) (λ a is. ap (λ (x : Arrival). q == x.from) (sym (same_arrival (record { from = p; number = k }) a is))) (tables_of s n D).came
+    ∙ ap (λ (x : Option (Option Item)). cond (q == p) None x) (came_is s n p k D)
+    ∙ spelt_none (q == p) (payload_at p k D)
 came_is s n p k (_ ∷ D) = came_is s n p k D
 
 found_spelt : (x : Option (List ℕ)) → found_item (option_map item_spelt x) ≡ option_and_then item_spelt x

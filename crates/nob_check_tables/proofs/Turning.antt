@@ -1,5 +1,6 @@
 -- The tables say what was asked of the owner of each reference and answered.
 use Rattle.std.proofs.Common.{◌≡◌, ◌&&◌, ◌||◌, not, ℕ, Bool, true, false, cond, List, [], ◌∷◌, Option, Some, None, refl, sym, ap, subst, ◌∙◌}
+use Rattle.std.specs.Prelude.{◌==◌}
 use Rattle.std.specs.List.{list_any}
 use Rattle.std.specs.Map.{lookup}
 use Rattle.nob_ids.specs.Names.{is_same}
@@ -8,9 +9,9 @@ use Rattle.nob_item.specs.Kinds.{counted_in}
 use Rattle.nob_item.specs.declared.item.Item.{Item}
 use Rattle.nob_item.specs.declared.item.Item.TheVariants as items
 use Rattle.nob_model_types.specs.Sessions.{closed, is_peer}
-use Rattle.nob_model_types.specs.Turns.{is_standing, wants_dirty, with_dirty, with_answer, with_clean, turns_after, turns}
+use Rattle.nob_model_types.specs.Turns.{no_turns, is_standing, wants_dirty, with_dirty, with_answer, with_clean, turns_after, turns}
 use Rattle.nob_model_types.specs.declared.deed.Deed.{Deed}
-use Rattle.nob_model_types.specs.declared.deed.Deed.TheVariants.{Act, Clean}
+use Rattle.nob_model_types.specs.declared.deed.Deed.TheVariants.{Act, Clean, Open}
 use Rattle.nob_model_types.specs.declared.turns.OwnerAnswer.TheVariants as said
 use Rattle.nob_model_types.specs.declared.turns.Turns.{Turns}
 use Rattle.nob_model_history.proofs.Dirtying.{same_self}
@@ -20,7 +21,7 @@ use Rattle.nob_check_tables.specs.Came.{item_in}
 use Rattle.nob_check_tables.specs.Rows.{found_turns, turns_in, with_turns, wants_dirty_by, rows_with_dirty, rows_with_dirties, with_item}
 use Rattle.nob_check_tables.specs.Tables.{tables_of}
 use Rattle.nob_check_tables.specs.Laws.{TablesLaw}
-use Rattle.nob_check_tables.proofs.Looking.{put_at}
+use Rattle.nob_check_tables.proofs.Looking.{put_at, found_without}
 use Rattle.nob_check_tables.proofs.Sessions.{number_is, closed_is, taken_is, item_is}
 
 found_if : (b : Bool) (t : Turns) (x : Option Turns) → found_turns (cond b (Some t) x) ≡ cond b t (found_turns x)
@@ -134,6 +135,14 @@ turns_are s n r (Act p k ∷ D) =
 turns_are s n r (Clean rep ∷ D) =
     changed with_clean r rep (tables_of s n D).rows
     ∙ ap (λ (t : Turns). cond (is_same r rep) (with_clean t) t) (turns_are s n r D)
+turns_are s n r (Open q k ∷ D) =
+    ap found_turns (found_without (is_same r) (λ (rep : WireRep). q == rep.owner) (q == r.owner) (λ rep is. ap (λ (x : WireRep). q == x.owner) (sym (same_ref r rep is))) (tables_of s n D).rows)
+    ∙ by (q == r.owner)
+    ∙ ap (λ (t : Turns). cond (q == r.owner) no_turns t) (turns_are s n r D)
+  where
+    by : (b : Bool) → found_turns (cond b None (lookup (is_same r) (tables_of s n D).rows)) ≡ cond b no_turns (turns_in r (tables_of s n D).rows)
+    by true = refl
+    by false = refl
 turns_are s n r (_ ∷ D) = turns_are s n r D
 
 -- the tables say what was done

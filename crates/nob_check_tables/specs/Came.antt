@@ -1,5 +1,5 @@
 -- Which items came, by sender and number.
-use Rattle.std.specs.Prelude.{ℕ, Bool, ◌&&◌, not, ◌==◌, List, Option, Some, None, is_some, if◌then◌else◌}
+use Rattle.std.specs.Prelude.{ℕ, Bool, ◌&&◌, not, ◌==◌, List, filter, Option, Some, None, is_some, if◌then◌else◌}
 use Rattle.std.specs.Map.{lookup}
 use Rattle.indexmap.specs.IndexMap.{insert_entry}
 use Rattle.nob_frame.specs.declared.frame.Frame.{Frame}
@@ -7,7 +7,7 @@ use Rattle.nob_item.specs.declared.item.Item.{Item}
 use Rattle.nob_model_session.specs.End.{brings_at}
 use Rattle.nob_model_types.specs.Sessions.{item_spelt}
 use Rattle.nob_model_types.specs.declared.deed.Deed.{Deed}
-use Rattle.nob_model_types.specs.declared.deed.Deed.TheVariants.{Arrive}
+use Rattle.nob_model_types.specs.declared.deed.Deed.TheVariants.{Arrive, Open}
 use Rattle.nob_check_tables.specs.Taken.{taken_from, is_present}
 use Rattle.nob_check_tables.specs.declared.came.Arrival.{Arrival}
 
@@ -36,7 +36,12 @@ with_item arrival item came = insert_entry is_same_arrival came arrival item
 abbrev pub with_frame : Frame → (accepted : ℕ) → List (Arrival × Option Item) → List (Arrival × Option Item)
 with_frame frame accepted came = if not (brings_at frame.seq frame accepted) then came else if is_some (came_at frame.from frame.seq came) then came else with_item (record { from = frame.from; number = frame.seq }) (item_spelt frame.payload) came
 
+-- what came, without the items of p
+abbrev pub without_items : ℕ → List (Arrival × Option Item) → List (Arrival × Option Item)
+without_items p came = filter (λ item. not (p == item.0.from)) came
+
 -- what came, after a deed, where the sessions had these numbers and so many items of each peer were accepted before: a frame of another session brings nothing
 abbrev pub came_after : Deed → (numbers taken : List (ℕ × ℕ)) → List (Arrival × Option Item) → List (Arrival × Option Item)
 came_after (Arrive frame count) numbers taken came = if is_present frame numbers then with_frame frame (taken_from frame.from taken) came else came
+came_after (Open p k) numbers taken came = without_items p came
 came_after (_) numbers taken came = came

@@ -1,5 +1,5 @@
 -- What was asked of the owner of each reference and answered, by reference.
-use Rattle.std.specs.Prelude.{ℕ, Bool, ◌&&◌, not, List, [], ◌∷◌, Option, Some, None, if◌then◌else◌}
+use Rattle.std.specs.Prelude.{ℕ, Bool, ◌&&◌, not, ◌==◌, List, [], ◌∷◌, filter, Option, Some, None, if◌then◌else◌}
 use Rattle.std.specs.List.{list_any}
 use Rattle.std.specs.Map.{lookup}
 use Rattle.indexmap.specs.IndexMap.{insert_entry}
@@ -48,6 +48,10 @@ rows_with_answer rep answer rows = with_turns rep (with_answer answer (turns_in 
 -- the rows once a reference was cleaned
 abbrev pub rows_with_clean : WireRep → List (WireRep × Turns) → List (WireRep × Turns)
 rows_with_clean rep rows = with_turns rep (with_clean (turns_in rep rows)) rows
+
+-- the rows without those of the references that p owns
+abbrev pub without_rows : ℕ → List (WireRep × Turns) → List (WireRep × Turns)
+without_rows p rows = filter (λ row. not (p == row.0.owner)) rows
 
 -- the rows once an item from p was acted on
 abbrev pub with_item : (s n p : ℕ) → Option Item → List ℕ → List (WireRep × Turns) → List (WireRep × Turns)

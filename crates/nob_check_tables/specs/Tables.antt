@@ -2,19 +2,20 @@
 use Rattle.std.specs.Prelude.{ℕ, List, [], ◌∷◌}
 use Rattle.nob_ids.specs.declared.wire_rep.WireRep.{WireRep}
 use Rattle.nob_model_types.specs.declared.deed.Deed.{Deed}
-use Rattle.nob_model_types.specs.declared.deed.Deed.TheVariants.{Act, Clean}
+use Rattle.nob_model_types.specs.declared.deed.Deed.TheVariants.{Act, Clean, Open}
 use Rattle.nob_model_types.specs.declared.turns.Turns.{Turns}
 use Rattle.nob_check_tables.specs.Closed.{closed_after}
 use Rattle.nob_check_tables.specs.Numbers.{numbers_after}
 use Rattle.nob_check_tables.specs.Taken.{taken_after}
 use Rattle.nob_check_tables.specs.Came.{came_after, item_in}
-use Rattle.nob_check_tables.specs.Rows.{with_item, rows_with_clean}
+use Rattle.nob_check_tables.specs.Rows.{with_item, rows_with_clean, without_rows}
 use Rattle.nob_check_tables.specs.declared.tables.Tables.{Tables}
 
 -- the rows after a deed
 abbrev pub rows_after : Deed → Tables → List (WireRep × Turns)
 rows_after (Act p k) tables = with_item tables.here.space tables.here.n p (item_in p k tables.came) tables.closed tables.rows
 rows_after (Clean rep) tables = rows_with_clean rep tables.rows
+rows_after (Open p k) tables = without_rows p tables.rows
 rows_after (_) tables = tables.rows
 
 -- the tables after a deed

@@ -1,10 +1,10 @@
 -- How many items of each peer were accepted in the session with it.
-use Rattle.std.specs.Prelude.{ℕ, ◌+◌, ◌==◌, Bool, List, Option, Some, None, if◌then◌else◌}
+use Rattle.std.specs.Prelude.{ℕ, ◌+◌, ◌==◌, Bool, not, List, filter, Option, Some, None, if◌then◌else◌}
 use Rattle.std.specs.Map.{lookup}
 use Rattle.indexmap.specs.IndexMap.{insert_entry}
 use Rattle.nob_frame.specs.declared.frame.Frame.{Frame}
 use Rattle.nob_model_types.specs.declared.deed.Deed.{Deed}
-use Rattle.nob_model_types.specs.declared.deed.Deed.TheVariants.{Arrive}
+use Rattle.nob_model_types.specs.declared.deed.Deed.TheVariants.{Arrive, Open}
 use Rattle.nob_check_tables.specs.Numbers.{number_in}
 
 -- the count that was found, 0 where there is none
@@ -24,7 +24,12 @@ is_present frame numbers = frame.session == number_in frame.from numbers
 abbrev pub with_taken : Frame → ℕ → List (ℕ × ℕ) → List (ℕ × ℕ)
 with_taken frame count taken = insert_entry (λ q other. q == other) taken frame.from (count + taken_from frame.from taken)
 
+-- the counts without that of p
+abbrev pub without_count : ℕ → List (ℕ × ℕ) → List (ℕ × ℕ)
+without_count p taken = filter (λ count. not (p == count.0)) taken
+
 -- the counts, after a deed: a frame of another session counts for nothing
 abbrev pub taken_after : Deed → (numbers : List (ℕ × ℕ)) → List (ℕ × ℕ) → List (ℕ × ℕ)
 taken_after (Arrive frame count) numbers taken = if is_present frame numbers then with_taken frame count taken else taken
+taken_after (Open p k) numbers taken = without_count p taken
 taken_after (_) numbers taken = taken

@@ -96,4 +96,25 @@ impl Came {
         map.insert(arrival, item)?;
         Ok(Came { map })
     }
+
+    /// What came, without the items of a peer. It takes no memory. Linear in what came.
+    pub fn without_items(self, peer: SpaceId) -> Came
+        ensures { result ≡ words.without_items peer self }
+    {
+        let Came { map } = self;
+        Came {
+            map: others(peer, map),
+        }
+    }
+}
+
+// The items of the other peers.
+fn others(
+    peer: SpaceId,
+    mut map: IndexMap<Arrival, Option<Item>>,
+) -> IndexMap<Arrival, Option<Item>>
+    ensures { result.entries ≡ words.without_items peer map.entries }
+{
+    map.retain(|arrival, _| peer != arrival.from);
+    map
 }

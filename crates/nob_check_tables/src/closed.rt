@@ -49,6 +49,24 @@ impl Closed {
         peers.insert(0, peer)?;
         Ok(Closed { peers })
     }
+
+    /// These without the session of a peer. It takes no memory. Linear in the peers.
+    pub fn without_peer(self, peer: SpaceId) -> Closed
+        ensures { result ≡ words.without_peer peer self }
+    {
+        let Closed { peers } = self;
+        Closed {
+            peers: others(peer, peers),
+        }
+    }
+}
+
+// The others of some peers.
+fn others(peer: SpaceId, mut peers: Vec<SpaceId>) -> Vec<SpaceId>
+    ensures { result.items ≡ words.without_peer peer peers.items }
+{
+    peers.retain(|other| peer != *other);
+    peers
 }
 
 // Whether a peer is one of these.

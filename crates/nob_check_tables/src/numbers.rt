@@ -1,11 +1,11 @@
 //! The number of the session with each peer.
 
-ghost use Rattle.std.specs.Prelude.{◌≡◌, []};
+ghost use Rattle.std.specs.Prelude.{◌≡◌, [], IfOk};
 ghost use Rattle.nob_check_tables.specs.Numbers as words;
 
 use indexmap::IndexMap;
 use nob_ids::SpaceId;
-use std::alloc::Global;
+use std::alloc::{AllocError, Global};
 use std::marker::Model;
 
 /// The numbers of the sessions that aren't the first with their peers. Contracts see the pairs, in
@@ -47,5 +47,15 @@ impl SessionNumbers {
             Some(number) => *number,
             None => 1,
         }
+    }
+
+    /// These with another number of the session with a peer. Only memory fails it. Constant time on
+    /// average.
+    pub fn with_number(self, peer: SpaceId, number: u32) -> Result<SessionNumbers, AllocError>
+        ensures { IfOk result (λ more. more ≡ words.with_number peer number self) }
+    {
+        let SessionNumbers { mut map } = self;
+        map.insert(peer, number)?;
+        Ok(SessionNumbers { map })
     }
 }

@@ -65,6 +65,25 @@ impl TurnRows {
         map.insert(rep, turns)?;
         Ok(TurnRows { map })
     }
+
+    /// These without those of the references that a peer owns. It takes no memory. Linear in the
+    /// rows.
+    pub fn without_rows(self, peer: SpaceId) -> TurnRows
+        ensures { result ≡ words.without_rows peer self }
+    {
+        let TurnRows { map } = self;
+        TurnRows {
+            map: others(peer, map),
+        }
+    }
+}
+
+// The rows of the references that others own.
+fn others(peer: SpaceId, mut map: IndexMap<WireRep, Turns>) -> IndexMap<WireRep, Turns>
+    ensures { result.entries ≡ words.without_rows peer map.entries }
+{
+    map.retain(|rep, _| peer != rep.owner);
+    map
 }
 
 // One Dirty more. No journal has so many that they can't be counted.

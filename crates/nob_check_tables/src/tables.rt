@@ -66,7 +66,8 @@ fn with_act(
 }
 
 /// The tables after a deed. Only memory fails it. It looks up the item that is acted on and each
-/// reference in it, the peer whose session closes, and that of a frame.
+/// reference in it, the peer whose session closes, and that of a frame. Where a session opens anew,
+/// it walks all rows.
 pub fn with_deed(alloc: Global, deed: &Deed, tables: Tables) -> Result<Tables, AllocError>
     ensures { IfOk result (λ after. after ≡ words.tables_after deed.now tables) }
 {
@@ -134,6 +135,14 @@ pub fn with_deed(alloc: Global, deed: &Deed, tables: Tables) -> Result<Tables, A
                 rows,
             })
         }
+        Deed::Open(peer, number) => Ok(Tables {
+            here,
+            numbers: numbers.with_number(*peer, *number)?,
+            closed: closed.without_peer(*peer),
+            taken: taken.without_count(*peer),
+            came: came.without_items(*peer),
+            rows: rows.without_rows(*peer),
+        }),
         _ => Ok(Tables {
             here,
             numbers,

@@ -70,4 +70,22 @@ impl Taken {
         map.insert(frame.from, count)?;
         Ok(Taken { map })
     }
+
+    /// The counts without that of a peer. It takes no memory. Linear in the peers.
+    pub fn without_count(self, peer: SpaceId) -> Taken
+        ensures { result ≡ words.without_count peer self }
+    {
+        let Taken { map } = self;
+        Taken {
+            map: others(peer, map),
+        }
+    }
+}
+
+// The counts of the other peers.
+fn others(peer: SpaceId, mut map: IndexMap<SpaceId, u128>) -> IndexMap<SpaceId, u128>
+    ensures { result.entries ≡ words.without_count peer map.entries }
+{
+    map.retain(|other, _| peer != *other);
+    map
 }

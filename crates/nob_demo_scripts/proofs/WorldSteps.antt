@@ -106,6 +106,7 @@ no_arrival (events.Withdraw index) is = refl
 no_arrival (events.Transmit peer) is = refl
 no_arrival (events.Tick peer) is = refl
 no_arrival (events.Close peer) is = refl
+no_arrival (events.Open peer) is = refl
 
 -- whether there is a space of a number is one test
 beyond : (n space : ℕ) → IsSpace space → not (nat_le 1 space && nat_le space n) ≡ nat_lt n space

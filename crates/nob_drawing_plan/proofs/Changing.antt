@@ -1,6 +1,6 @@
 -- What one deed changes of the marks of its space.
 use Rattle.std.proofs.Common.{◌≡◌, ℕ, Bool, true, false, true≢false, cond, ◌&&◌, ◌||◌, ◌⊎◌, inl, inr, List, [], ◌∷◌, ◌++◌, Option, Some, None, refl, sym, ap, subst, ◌∙◌}
-use Rattle.std.specs.Prelude.{◌==◌, not, flat_map}
+use Rattle.std.specs.Prelude.{◌==◌, not, flat_map, if◌then◌else◌}
 use Rattle.std.specs.List.{list_any, list_all}
 use Rattle.std.proofs.lemmas.Bool.{and_parts, and_from, or_cases, or_left, or_right, eqb-true, eq-eqb}
 use Rattle.std.proofs.lemmas.Grind.{flat_map-append}
@@ -58,13 +58,32 @@ withdrawn_before : (i : ℕ) (deed : Deed) (D : List Deed) → not (is_withdrawn
 withdrawn_before i (did.Withdraw x) D h = not_first (x == i) (is_withdrawn i D) h
 withdrawn_before i _ D h = h
 
-closed_before : (p : ℕ) (deed : Deed) (D : List Deed) → not (closed p (deed ∷ D)) ≡ true → not (closed p D) ≡ true
-closed_before p (did.Closing q reason cause) D h = not_first (q == p) (closed p D) h
-closed_before p _ D h = h
+-- whether a deed opens a session anew
+abbrev pub opens : Deed → Bool
+opens (did.Open q k) = true
+opens _ = false
 
-settled_before : (p k : ℕ) (deed : Deed) (D : List Deed) → not (is_settled p k (deed ∷ D)) ≡ true → not (is_settled p k D) ≡ true
-settled_before p k (did.Act q j) D h = not_first (q == p && is_settle_of k (item_at q j D)) (is_settled p k D) h
-settled_before p k _ D h = h
+-- what was sent before a deed and has the pins that it had
+abbrev pub kept_of : Deed → List SentItem → List SentItem
+kept_of deed S = if opens deed then [] else S
+
+-- what may have others
+abbrev pub anew_of : Deed → (S N : List SentItem) → List SentItem
+anew_of deed S N = if opens deed then S ++ N else N
+
+closed_before : (p : ℕ) (deed : Deed) (D : List Deed) → opens deed ≡ false → not (closed p (deed ∷ D)) ≡ true → not (closed p D) ≡ true
+closed_before p (did.Closing q reason cause) D none h = not_first (q == p) (closed p D) h
+closed_before p (did.Open q k) D none h = absurd (true≢false none)
+closed_before p _ D none h = h
+
+settled_before : (p k : ℕ) (deed : Deed) (D : List Deed) → opens deed ≡ false → not (is_settled p k (deed ∷ D)) ≡ true → not (is_settled p k D) ≡ true
+settled_before p k (did.Act q j) D none h = not_first (q == p && is_settle_of k (item_at q j D)) (is_settled p k D) h
+settled_before p k (did.Open q j) D none h = absurd (true≢false none)
+settled_before p k _ D none h = h
+
+numbered_before : (p j : ℕ) (deed : Deed) (D : List Deed) → opens deed ≡ false → (j == number p (deed ∷ D)) ≡ true → (j == number p D) ≡ true
+numbered_before p j (did.Open q k) D none h = absurd (true≢false none)
+numbered_before p j _ D none h = h
 
 -- ---- which marks hold still
 
@@ -96,6 +115,11 @@ entered_still s i c (did.Act p k) D h =
     ap (λ (b : Bool). cond (p == c) (is_entered_after s i (item_at p k D) D b) b) h
     ∙ act_still s i c p k D (item_at p k D)
 entered_still s i c (did.Export rep) D h = h
+entered_still s i c (did.Open q k) D h = ap (λ (b : Bool). cond (q == c) false b) h ∙ by (q == c)
+  where
+    by : (b : Bool) → cond b false true ≡ not b
+    by true = refl
+    by false = refl
 entered_still s i c _ D h = h
 
 pub still : (s : ℕ) (deed : Deed) (D : List Deed) (S N : List SentItem) (m : Mark) → held s D S m ≡ true → holds_still s (change_of deed D) (deed ∷ D) m ≡ held s (deed ∷ D) (S ++ N) m
@@ -172,6 +196,11 @@ entered_exported s i c (did.Act p k ∷ D) h = by (entered_exported s i c D) (p 
     by rest true entered = acted_exported s i (is_entered s i c D) D (item_at p k D) rest entered
     by rest false before = rest before
 entered_exported s i c (did.Export rep ∷ D) h = exported_on (own s i) (did.Export rep) D (entered_exported s i c D h)
+entered_exported s i c (did.Open q k ∷ D) h = by (entered_exported s i c D) (q == c) h
+  where
+    by : (is_entered s i c D ≡ true → is_exported s i D ≡ true) → (b : Bool) → cond b false (is_entered s i c D) ≡ true → is_exported s i D ≡ true
+    by rest true never = absurd (true≢false (sym never))
+    by rest false before = rest before
 entered_exported s i c (deed ∷ D) h = entered_exported s i c D h
 
 -- a mark held before, or it is the new one
@@ -240,10 +269,24 @@ listed_old s (did.Act p k) D S rep c mine still_open entered there = by (p == c)
     by true same after = act_old s p k D S rep c (item_at p k D) (own_is s rep mine) same still_open there after
     by false other before = inl (and_from (is_listed s rep.index c D) _ (and_from (not (closed c D)) _ still_open before) there)
 listed_old s (did.Closing p reason cause) D S rep c mine still_open entered there =
-    inl (and_from (is_listed s rep.index c D) _ (and_from (not (closed c D)) _ (closed_before c (did.Closing p reason cause) D still_open) entered) there)
+    inl (and_from (is_listed s rep.index c D) _ (and_from (not (closed c D)) _ (closed_before c (did.Closing p reason cause) D refl still_open) entered) there)
+listed_old s (did.Open q k) D S rep c mine still_open entered there = by (q == c) still_open entered
+  where
+    by : (b : Bool) → not (cond b false (closed c D)) ≡ true → cond b false (is_entered s rep.index c D) ≡ true → IsOld s (did.Open q k) D S (Listed rep c)
+    by true opened never = absurd (true≢false (sym never))
+    by false opened before = inl (and_from (is_listed s rep.index c D) _ (and_from (not (closed c D)) _ opened before) there)
 listed_old s _ D S rep c mine still_open entered there = inl (and_from (is_listed s rep.index c D) _ (and_from (not (closed c D)) _ still_open entered) there)
 
-pub old_or_new : (s : ℕ) (deed : Deed) (D : List Deed) (S : List SentItem) → AreOwn s (exports (deed ∷ D)) → (m : Mark) → held s (deed ∷ D) S m ≡ true → IsOld s deed D S m
+-- a pin of what was sent before
+pinned_old : (s : ℕ) (deed : Deed) (D : List Deed) (S : List SentItem) (rep : WireRep) (p j k : ℕ) → (opening : Bool) → opens deed ≡ opening → held s (deed ∷ D) (if opening then [] else S) (Pinned rep p j k) ≡ true → IsOld s deed D S (Pinned rep p j k)
+pinned_old s deed D S rep p j k true is h = absurd (true≢false (sym (and_parts (is_open p j k (deed ∷ D)) false h).1))
+pinned_old s deed D S rep p j k false none h =
+    let parts = and_parts (is_open p j k (deed ∷ D)) (list_any (same_mark (Pinned rep p j k)) (flat_map pins_of S)) h in
+    let more = and_parts (j == number p (deed ∷ D) && not (is_settled p k (deed ∷ D))) (not (closed p (deed ∷ D))) parts.0 in
+    let first = and_parts (j == number p (deed ∷ D)) (not (is_settled p k (deed ∷ D))) more.0 in
+    inl (and_from (is_open p j k D) _ (and_from (j == number p D && not (is_settled p k D)) _ (and_from (j == number p D) _ (numbered_before p j deed D none first.0) (settled_before p k deed D none first.1)) (closed_before p deed D none more.1)) parts.1)
+
+pub old_or_new : (s : ℕ) (deed : Deed) (D : List Deed) (S : List SentItem) → AreOwn s (exports (deed ∷ D)) → (m : Mark) → held s (deed ∷ D) (kept_of deed S) m ≡ true → IsOld s deed D S m
 old_or_new s deed D S all (Live rep) h =
     let parts = and_parts (rep.owner == s && not (is_withdrawn rep.index (deed ∷ D))) (list_any (is_same rep) (exports (deed ∷ D))) h in
     let more = and_parts (rep.owner == s) (not (is_withdrawn rep.index (deed ∷ D))) parts.0 in
@@ -252,12 +295,7 @@ old_or_new s deed D S all (Listed rep c) h =
     let parts = and_parts (is_listed s rep.index c (deed ∷ D)) (list_any (is_same rep) (exports (deed ∷ D))) h in
     let more = and_parts (not (closed c (deed ∷ D))) (is_entered s rep.index c (deed ∷ D)) parts.0 in
     listed_old s deed D S rep c (own_of s rep (exports (deed ∷ D)) all parts.1) more.0 more.1 parts.1
-old_or_new s deed D S all (Pinned rep p j k) h =
-    let parts = and_parts (is_open p j k (deed ∷ D)) (list_any (same_mark (Pinned rep p j k)) (flat_map pins_of S)) h in
-    let more = and_parts (j == number p (deed ∷ D) && not (is_settled p k (deed ∷ D))) (not (closed p (deed ∷ D))) parts.0 in
-    let first = and_parts (j == number p (deed ∷ D)) (not (is_settled p k (deed ∷ D))) more.0 in
-    let present : (j == number p D) ≡ true = first.0 in
-    inl (and_from (is_open p j k D) _ (and_from (j == number p D && not (is_settled p k D)) _ (and_from (j == number p D) _ present (settled_before p k deed D first.1)) (closed_before p deed D more.1)) parts.1)
+old_or_new s deed D S all (Pinned rep p j k) h = pinned_old s deed D S rep p j k (opens deed) refl h
 
 -- ---- the new one holds
 

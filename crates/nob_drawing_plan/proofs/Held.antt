@@ -11,7 +11,7 @@ use Rattle.nob_item.specs.Kinds.{counted_in}
 use Rattle.nob_model_types.specs.Sessions.{closed, number, item_at}
 use Rattle.nob_model_types.specs.Objects.{exports, is_withdrawn, live}
 use Rattle.nob_model_types.specs.declared.deed.Deed.{Deed}
-use Rattle.nob_model_types.specs.declared.deed.Deed.TheVariants.{Act}
+use Rattle.nob_model_types.specs.declared.deed.Deed.TheVariants.{Act, Open}
 use Rattle.nob_model_work.specs.Gifts.{once}
 use Rattle.nob_model_history.specs.Listing.{is_entered, is_entered_after, is_listed}
 use Rattle.nob_model_history.specs.Transit.{is_settled, is_of_present, is_pinned, is_some_of}
@@ -115,6 +115,11 @@ entered_sent s i c (Act p k ∷ D) h = by (entered_sent s i c D) (p == c) refl h
     by : (is_entered s i c D ≡ true → list_any (λ (x : ℕ). c == x) (senders_in D) ≡ true) → (b : Bool) → (p == c) ≡ b → cond b (is_entered_after s i (item_at p k D) D (is_entered s i c D)) (is_entered s i c D) ≡ true → list_any (λ (x : ℕ). c == x) (with_space p (senders_in D)) ≡ true
     by rest true same entered = more_senders c p (senders_in D) (inl same)
     by rest false other entered = more_senders c p (senders_in D) (inr (rest entered))
+entered_sent s i c (Open q k ∷ D) h = by (entered_sent s i c D) (q == c) h
+  where
+    by : (is_entered s i c D ≡ true → list_any (λ (x : ℕ). c == x) (senders_in D) ≡ true) → (b : Bool) → cond b false (is_entered s i c D) ≡ true → list_any (λ (x : ℕ). c == x) (senders_in D) ≡ true
+    by rest true never = absurd (true≢false (sym never))
+    by rest false before = rest before
 entered_sent s i c (deed ∷ D) h = entered_sent s i c D h
 
 listed_sent : (s i c : ℕ) (D : List Deed) → is_listed s i c D ≡ true → list_any (λ (x : ℕ). c == x) (senders_in D) ≡ true

@@ -9,6 +9,7 @@ use Rattle.std.proofs.lemmas.List.Elements.{filter-append}
 use Rattle.std.proofs.lemmas.List.Folds.{list_any-append}
 use Rattle.nob_model_types.specs.Objects.{exports}
 use Rattle.nob_model_types.specs.declared.deed.Deed.{Deed}
+use Rattle.nob_model_types.specs.declared.deed.Deed.TheVariants.{Open}
 use Rattle.nob_model_work.specs.Gifts.{gifts}
 use Rattle.nob_model_work.specs.Work.{work}
 use Rattle.nob_model_history.specs.Histories.{history_of}
@@ -21,11 +22,11 @@ use Rattle.nob_drawing_plan.specs.declared.bar.Bar.{Bar}
 use Rattle.nob_drawing_plan.specs.declared.steps.Change.{Change}
 use Rattle.nob_drawing_plan.specs.Marks.{same_mark, pins_of, listed_marks, live_marks, marks_of, is_quiet_deed}
 use Rattle.nob_drawing_plan.specs.Bars.{goes_on, is_bar_of, has_bar, new_bar, ended, with_begun, bars_after}
-use Rattle.nob_drawing_plan.specs.Steps.{change_of, holds_still, first_new, new_pins, ended_by, one_begun, bars_by, just_sent, bars_by_deed}
+use Rattle.nob_drawing_plan.specs.Steps.{change_of, holds_still, first_new, new_pins, ended_by, one_begun, bars_by, passed_over, just_sent, bars_by_deed}
 use Rattle.nob_drawing_plan.proofs.Standing.{mark_is, mark_self, ends_own, new_own}
 use Rattle.nob_drawing_plan.proofs.Quiet.{begun_same, kept_by, after_same}
 use Rattle.nob_drawing_plan.proofs.Held.{front, held, in_front}
-use Rattle.nob_drawing_plan.proofs.Changing.{AreOwn, IsOld, still, old_or_new, new_holds}
+use Rattle.nob_drawing_plan.proofs.Changing.{AreOwn, IsOld, kept_of, anew_of, still, old_or_new, new_holds}
 
 -- ---- bars that end
 
@@ -120,61 +121,79 @@ front_parts s D S N =
     ∙ ap (λ (ms : List Mark). lives ++ ms) (sym (append_assoc lists pins (new_pins D N)))
     ∙ sym (append_assoc lives (lists ++ pins) (new_pins D N))
 
-just_is : (s n : ℕ) (deed : Deed) (D : List Deed) → just_sent deed (ledger_of s n D) ≡ new_items D (sent (history_of s n D)) (gifts s n deed D (work s n D))
+-- what is left of what was sent first and what was sent then
+left_over : (deed : Deed) (S N : List SentItem) → drop (passed_over deed (length S)) (S ++ N) ≡ anew_of deed S N
+left_over (Open q k) S N = refl
+left_over _ S N = drop-append_seam S N
+
+just_is : (s n : ℕ) (deed : Deed) (D : List Deed) → just_sent deed (ledger_of s n D) ≡ anew_of deed (sent (history_of s n D)) (new_items D (sent (history_of s n D)) (gifts s n deed D (work s n D)))
 just_is s n deed D =
-    ap (drop (length (sent (history_of s n D)))) (sent_more s n deed D)
-    ∙ drop-append_seam (sent (history_of s n D)) (new_items D (sent (history_of s n D)) (gifts s n deed D (work s n D)))
+    ap (drop (passed_over deed (length (sent (history_of s n D))))) (sent_more s n deed D)
+    ∙ left_over deed (sent (history_of s n D)) (new_items D (sent (history_of s n D)) (gifts s n deed D (work s n D)))
 
--- the marks after a deed: those of what was sent before, and the pins of what is sent now
-marks_more : (s n : ℕ) (deed : Deed) (D : List Deed) → marks_of s (history_of s n (deed ∷ D)) ≡ front s (deed ∷ D) (sent (history_of s n D)) ++ new_pins (deed ∷ D) (new_items D (sent (history_of s n D)) (gifts s n deed D (work s n D)))
+-- both are all that was sent
+both_are : (deed : Deed) (S N : List SentItem) → kept_of deed S ++ anew_of deed S N ≡ S ++ N
+both_are (Open q k) S N = refl
+both_are _ S N = refl
+
+-- the marks after a deed: those of what was sent before and keeps its pins, and the pins of the rest
+marks_more : (s n : ℕ) (deed : Deed) (D : List Deed) → marks_of s (history_of s n (deed ∷ D)) ≡ front s (deed ∷ D) (kept_of deed (sent (history_of s n D))) ++ new_pins (deed ∷ D) (anew_of deed (sent (history_of s n D)) (new_items D (sent (history_of s n D)) (gifts s n deed D (work s n D))))
 marks_more s n deed D =
-    ap (λ (S : List SentItem). front s (deed ∷ D) S) (sent_more s n deed D)
-    ∙ front_parts s (deed ∷ D) (sent (history_of s n D)) (new_items D (sent (history_of s n D)) (gifts s n deed D (work s n D)))
+    let S = sent (history_of s n D) in
+    let N = new_items D S (gifts s n deed D (work s n D)) in
+    ap (λ (all : List SentItem). front s (deed ∷ D) all) (sent_more s n deed D ∙ sym (both_are deed S N))
+    ∙ front_parts s (deed ∷ D) (kept_of deed S) (anew_of deed S N)
 
-changed_bars : (s row : ℕ) (deed : Deed) (D : List Deed) (S N : List SentItem) (B : List Bar) → AreOwn s (exports (deed ∷ D)) → ((m : Mark) → has_bar s m B ≡ held s D S m) → bars_by s row (change_of deed D) (deed ∷ D) N B ≡ bars_after s row (front s (deed ∷ D) S ++ new_pins (deed ∷ D) N) B
+changed_bars : (s row : ℕ) (deed : Deed) (D : List Deed) (S N : List SentItem) (B : List Bar) → AreOwn s (exports (deed ∷ D)) → ((m : Mark) → has_bar s m B ≡ held s D S m) → bars_by s row (change_of deed D) (deed ∷ D) (anew_of deed S N) B ≡ bars_after s row (front s (deed ∷ D) (kept_of deed S) ++ new_pins (deed ∷ D) (anew_of deed S N)) B
 changed_bars s row deed D S N B own told =
-    ap (λ (left : List Bar). with_begun s row (new_pins (deed ∷ D) N) (one_begun s row (first_new s change (deed ∷ D)) left)) (ends_alike s row all change (deed ∷ D) B alike)
-    ∙ ap (with_begun s row (new_pins (deed ∷ D) N)) (by (first_new s change (deed ∷ D)) refl)
-    ∙ sym (begun_append s row (front s (deed ∷ D) S) (new_pins (deed ∷ D) N) (map (ended s row all) B))
+    ap (λ (left : List Bar). with_begun s row (new_pins (deed ∷ D) anew) (one_begun s row (first_new s change (deed ∷ D)) left)) (ends_alike s row all change (deed ∷ D) B alike)
+    ∙ ap (with_begun s row (new_pins (deed ∷ D) anew)) (by (first_new s change (deed ∷ D)) refl)
+    ∙ sym (begun_append s row before (new_pins (deed ∷ D) anew) (map (ended s row all) B))
   where
     change : Change
     change = change_of deed D
 
+    anew : List SentItem
+    anew = anew_of deed S N
+
+    before : List Mark
+    before = front s (deed ∷ D) (kept_of deed S)
+
     all : List Mark
-    all = front s (deed ∷ D) S ++ new_pins (deed ∷ D) N
+    all = before ++ new_pins (deed ∷ D) anew
 
     -- all that holds after the deed
     all_in : (m : Mark) → list_any (same_mark m) all ≡ held s (deed ∷ D) (S ++ N) m
-    all_in m = ap (list_any (same_mark m)) (sym (front_parts s (deed ∷ D) S N)) ∙ in_front s (deed ∷ D) (S ++ N) m
+    all_in m = ap (list_any (same_mark m)) (sym (front_parts s (deed ∷ D) (kept_of deed S) anew) ∙ ap (front s (deed ∷ D)) (both_are deed S N)) ∙ in_front s (deed ∷ D) (S ++ N) m
 
     alike : (m : Mark) → has_bar s m B ≡ true → holds_still s change (deed ∷ D) m ≡ list_any (same_mark m) all
     alike m has = still s deed D S N m (sym (told m) ∙ has) ∙ sym (all_in m)
 
     -- a mark that held before and is one of those in front has its bar still
-    goes : (m : Mark) → list_any (same_mark m) (front s (deed ∷ D) S) ≡ true → held s D S m ≡ true → has_bar s m (map (ended s row all) B) ≡ true
-    goes m there before =
+    goes : (m : Mark) → list_any (same_mark m) before ≡ true → held s D S m ≡ true → has_bar s m (map (ended s row all) B) ≡ true
+    goes m there was =
         ends_own s row all m B
-        ∙ and_from (has_bar s m B) _ (told m ∙ before) (list_any-append (same_mark m) (front s (deed ∷ D) S) (new_pins (deed ∷ D) N) ∙ or_left (list_any (same_mark m) (front s (deed ∷ D) S)) _ there)
+        ∙ and_from (has_bar s m B) _ (told m ∙ was) (list_any-append (same_mark m) before (new_pins (deed ∷ D) anew) ∙ or_left (list_any (same_mark m) before) _ there)
 
-    old : (m : Mark) → list_any (same_mark m) (front s (deed ∷ D) S) ≡ true → IsOld s deed D S m
-    old m there = old_or_new s deed D S own m (sym (in_front s (deed ∷ D) S m) ∙ there)
+    old : (m : Mark) → list_any (same_mark m) before ≡ true → IsOld s deed D S m
+    old m there = old_or_new s deed D S own m (sym (in_front s (deed ∷ D) (kept_of deed S) m) ∙ there)
 
-    by : (new : Option Mark) → first_new s change (deed ∷ D) ≡ new → one_begun s row new (map (ended s row all) B) ≡ with_begun s row (front s (deed ∷ D) S) (map (ended s row all) B)
-    by None is = sym (begun_same s row (front s (deed ∷ D) S) (map (ended s row all) B) (λ m there. goes m there (before m (old m there))))
+    by : (new : Option Mark) → first_new s change (deed ∷ D) ≡ new → one_begun s row new (map (ended s row all) B) ≡ with_begun s row before (map (ended s row all) B)
+    by None is = sym (begun_same s row before (map (ended s row all) B) (λ m there. goes m there (held_before m (old m there))))
       where
-        before : (m : Mark) → IsOld s deed D S m → held s D S m ≡ true
-        before m (inl was) = was
-        before m (inr new) = absurd (let never : None ≡ Some m = sym is ∙ new in cc)
-    by (Some one) is = sym (begun_one s row one (front s (deed ∷ D) S) (map (ended s row all) B) there but)
+        held_before : (m : Mark) → IsOld s deed D S m → held s D S m ≡ true
+        held_before m (inl was) = was
+        held_before m (inr new) = absurd (let never : None ≡ Some m = sym is ∙ new in cc)
+    by (Some one) is = sym (begun_one s row one before (map (ended s row all) B) there but)
       where
-        there : list_any (same_mark one) (front s (deed ∷ D) S) ≡ true
-        there = in_front s (deed ∷ D) S one ∙ new_holds s deed D S own one is
+        there : list_any (same_mark one) before ≡ true
+        there = in_front s (deed ∷ D) (kept_of deed S) one ∙ new_holds s deed D (kept_of deed S) own one is
 
-        either : (m : Mark) → list_any (same_mark m) (front s (deed ∷ D) S) ≡ true → IsOld s deed D S m → (has_bar s m (map (ended s row all) B) ≡ true) ⊎ (one ≡ m)
+        either : (m : Mark) → list_any (same_mark m) before ≡ true → IsOld s deed D S m → (has_bar s m (map (ended s row all) B) ≡ true) ⊎ (one ≡ m)
         either m among (inl was) = inl (goes m among was)
         either m among (inr new) = inr (let same : Some one ≡ Some m = sym is ∙ new in cc)
 
-        but : (m : Mark) → list_any (same_mark m) (front s (deed ∷ D) S) ≡ true → (has_bar s m (map (ended s row all) B) ≡ true) ⊎ (one ≡ m)
+        but : (m : Mark) → list_any (same_mark m) before ≡ true → (has_bar s m (map (ended s row all) B) ≡ true) ⊎ (one ≡ m)
         but m among = either m among (old m among)
 
 -- the bars after a deed of a space are those of the marks that hold then

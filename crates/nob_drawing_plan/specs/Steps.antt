@@ -6,7 +6,7 @@ use Rattle.nob_item.specs.declared.item.Item.TheVariants as items
 use Rattle.nob_model_types.specs.Sessions.{closed, number, item_at}
 use Rattle.nob_model_types.specs.Objects.{is_live}
 use Rattle.nob_model_types.specs.declared.deed.Deed.{Deed}
-use Rattle.nob_model_types.specs.declared.deed.Deed.TheVariants.{Export, Act}
+use Rattle.nob_model_types.specs.declared.deed.Deed.TheVariants.{Export, Act, Open}
 use Rattle.nob_model_history.specs.Transit.{is_settled, is_pinned}
 use Rattle.nob_model_history.specs.declared.transit.SentItem.{SentItem}
 use Rattle.nob_check_ledgers.specs.Ledgers.{ledger_after}
@@ -29,12 +29,14 @@ change_by p _ = changes.Other
 abbrev pub change_of : Deed → List Deed → Change
 change_of (Export rep) D = changes.Exported rep
 change_of (Act p k) D = change_by p (item_at p k D)
+change_of (Open p k) D = changes.Opened p
 change_of (_) D = changes.Other
 
 -- whether client c, whose last word for an index was a Dirty that was answered by DirtyOk, has such a last word after a change
 abbrev pub is_entered_still : (s index c : ℕ) → Change → List Deed → Bool
 is_entered_still s index c (changes.Asked p x) D = if p == c && x == index then is_live s x D else true
 is_entered_still s index c (changes.GaveUp p x) D = not (p == c && x == index)
+is_entered_still s index c (changes.Opened p) D = not (p == c)
 is_entered_still s index c (_) D = true
 
 -- whether a mark that held before a change holds after it
@@ -49,7 +51,7 @@ first_new s (changes.Exported rep) D = if is_live s rep.index D then Some (marks
 first_new s (changes.Asked p x) D = if is_live s x D && not (closed p D) then Some (marks.Listed (record { owner = s; index = x }) p) else None
 first_new s _ D = None
 
--- the pins of what was just sent
+-- the pins of what was sent of these items
 abbrev pub new_pins : List Deed → List SentItem → List Mark
 new_pins D sent_items = flat_map pins_of (filter (is_pinned D) sent_items)
 
@@ -66,9 +68,14 @@ one_begun s row (Some mark) bars = with_begun s row (mark ∷ []) bars
 abbrev pub bars_by : (s row : ℕ) → Change → List Deed → List SentItem → List Bar → List Bar
 bars_by s row change D sent_items bars = with_begun s row (new_pins D sent_items) (one_begun s row (first_new s change D) (map (ended_by s row change D) bars))
 
--- what a ledger's space sent by a deed
+-- how many of so many items that were sent before a deed get no pin by it: all of them, unless a session is opened anew, under a number that it had before
+abbrev pub passed_over : Deed → ℕ → ℕ
+passed_over (Open p k) count = 0
+passed_over _ count = count
+
+-- what of all that a ledger's space sent may have pins after a deed that it had not before
 abbrev pub just_sent : Deed → Ledger → List SentItem
-just_sent deed ledger = drop (length ledger.sent_items) (ledger_after deed ledger).sent_items
+just_sent deed ledger = drop (passed_over deed (length ledger.sent_items)) (ledger_after deed ledger).sent_items
 
 -- the bars after a deed of a ledger's space at a row
 abbrev pub bars_by_deed : ℕ → Deed → Ledger → List Bar → List Bar

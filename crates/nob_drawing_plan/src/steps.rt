@@ -25,6 +25,8 @@ pub enum Change {
     Asked(SpaceId, u64),
     /// A client's Clean for it is.
     GaveUp(SpaceId, u64),
+    /// The session with a peer is opened anew.
+    Opened(SpaceId),
     /// Another.
     Other,
 }
@@ -50,6 +52,7 @@ fn change_of(deed: &Deed, past: &DeedIndex) -> Change
             Some(item) => change_by(*from, item),
             None => Change::Other,
         },
+        Deed::Open(peer, _) => Change::Opened(*peer),
         _ => Change::Other,
     }
 }
@@ -67,6 +70,7 @@ fn is_entered_still(change: &Change, after: &DeedIndex, index: u64, client: Spac
             true
         }
         Change::GaveUp(from, given) => !(*from == client && *given == index),
+        Change::Opened(peer) => *peer != client,
         _ => true,
     }
 }
@@ -129,7 +133,7 @@ fn is_pinned(alloc: Global, after: &DeedIndex, sent_item: &SentItem) -> Result<b
     Ok(!after.is_closed(sent_item.to))
 }
 
-// The pins of what was just sent: a deed sends few items.
+// The pins of what was sent of these items.
 fn new_pins(
     alloc: Global,
     after: &DeedIndex,
@@ -229,9 +233,20 @@ fn behind(count: usize, sent_items: &[SentItem]) -> &[SentItem]
     sent_items.split_at(count).1
 }
 
+// How many items of those that were sent before a deed get no pin by it, where so many were: all of
+// them, unless it opens a session anew.
+fn passed_over(deed: &Deed, count: usize) -> usize
+    ensures { result ≡ spec.passed_over deed.now count }
+{
+    match deed {
+        Deed::Open(_, _) => 0,
+        _ => count,
+    }
+}
+
 /// A space's ledger and the bars after a deed of it at a row, where no loan is due before that can
 /// be made. Only memory fails it. It looks up what the deed touches and whether the marks still
-/// hold that have a bar which goes on.
+/// hold that have a bar which goes on; where it opens a session anew, it looks at all that was sent.
 pub fn after_deed(
     alloc: Global,
     row: usize,
@@ -249,7 +264,7 @@ pub fn after_deed(
         return Ok((after, bars));
     }
     let change = change_of(&deed, &ledger.index);
-    let count = ledger.sent_items.as_slice().len();
+    let count = passed_over(&deed, ledger.sent_items.as_slice().len());
     let after = with_deed(alloc, deed, ledger)?;
     let sent_items = behind(count, after.sent_items.as_slice());
     let more = bars_by(

@@ -36,6 +36,7 @@ IsTold (answers.Cleaned rep) = IsRep rep
 IsTold answers.Withdrawn = Unit {0}
 IsTold (answers.Frames frames) = ⊥
 IsTold (answers.Took count) = count < 2 ^ 64
+IsTold (answers.Opened number) = number < 2 ^ 32
 
 -- the text is the answer's, and the answer has one of its own
 abbrev pub Tells : List ℕ → Answer → Type 0

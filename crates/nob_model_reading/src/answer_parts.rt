@@ -1,4 +1,4 @@
-//! Texts to what an answer is about: a reason, a reply, a settled message, a job.
+//! Texts to what an answer is about: a reason, a session, a reply, a settled message, a job.
 
 ghost use Rattle.std.specs.Prelude.{◌≡◌, ◌++◌, ◌∷◌, ◌<◌, ◌^◌, ℕ, List, IfOk, codes};
 ghost use Rattle.std.specs.Fmt.{decimal};
@@ -33,6 +33,18 @@ pub fn whole_reason(alloc: Global, text: &[u8]) -> Result<Reason, Unread>
         Some(reason) => Ok(reason),
         None => Err(Unread::NoText),
     }
+}
+
+// The number of a session that a text spells.
+pub fn whole_session(alloc: Global, text: &[u8]) -> Result<u32, Unread>
+    ensures found { IfOk result (λ n. (n < 2 ^ 32) × (text.now ≡ decimal n)) }
+    ensures only { (n : ℕ) → n < 2 ^ 32 → text.now ≡ decimal n → Reads (λ m. m ≡ n) result }
+{
+    let number = whole_number(alloc, text)?;
+    if number > 4_294_967_295 {
+        return Err(Unread::NoText);
+    }
+    Ok(number as u32)
 }
 
 // The reply that a text spells behind its word.

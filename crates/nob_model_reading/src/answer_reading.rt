@@ -9,7 +9,7 @@ ghost use Rattle.nob_model_types.specs.declared.answer.Job.{Job as JobOf};
 ghost use Rattle.nob_model_text.specs.Answers.{answer_text};
 ghost use Rattle.nob_model_reading.specs.Told.{IsTold, ReadsTold, Tells};
 
-use crate::answer_parts::{job_of, reply_of, settled_of, whole_reason};
+use crate::answer_parts::{job_of, reply_of, settled_of, whole_reason, whole_session};
 use crate::parts::{whole_number, whole_rep};
 use nob_ids::{CallNo, ItemNo};
 use nob_model_text::Unread;
@@ -62,12 +62,14 @@ fn answer_by(alloc: Global, first: u8, text: &[u8]) -> Result<Answer, Unread>
     ensures cleaned { (rep : RepOf) → ReadsTold (first ∷ text.now) result (Answer.Cleaned rep) }
     ensures withdrawn { ReadsTold (first ∷ text.now) result Answer.Withdrawn }
     ensures took { (count : ℕ) → ReadsTold (first ∷ text.now) result (Answer.Took count) }
+    ensures opened { (number : ℕ) → ReadsTold (first ∷ text.now) result (Answer.Opened number) }
 {
     match first {
         b'a' => acted_answer(alloc, text),
         b'c' => c_answer(alloc, text),
         b'e' => e_answer(alloc, text),
         b'j' => job_answer(alloc, text),
+        b'o' => o_answer(alloc, text),
         b'r' => replied_answer(alloc, text),
         b's' => settled_answer(alloc, text),
         b't' => took_answer(alloc, text),
@@ -146,6 +148,21 @@ fn job_answer(alloc: Global, text: &[u8]) -> Result<Answer, Unread>
     }
 }
 
+// That a thing is done, or the answer to an Open, behind the first letter of its word.
+fn o_answer(alloc: Global, text: &[u8]) -> Result<Answer, Unread>
+    ensures found { IfOk result (λ answer. Tells (111 ∷ text.now) answer) }
+    ensures ok { ReadsTold (111 ∷ text.now) result Answer.Done }
+    ensures opened { (number : ℕ) → ReadsTold (111 ∷ text.now) result (Answer.Opened number) }
+{
+    match text {
+        b"k" => Ok(Answer::Done),
+        [b'p', b'e', b'n', b'e', b'd', b' ', rest @ ..] => Ok(Answer::Opened(whole_session(
+            alloc, rest,
+        )?)),
+        _ => Err(Unread::NoText),
+    }
+}
+
 // The answer to a TakeReply, behind the first letter of its word.
 fn replied_answer(alloc: Global, text: &[u8]) -> Result<Answer, Unread>
     ensures found { IfOk result (λ answer. Tells (114 ∷ text.now) answer) }
@@ -184,13 +201,11 @@ fn took_answer(alloc: Global, text: &[u8]) -> Result<Answer, Unread>
 // An answer of one word, behind its first letter. It takes no memory.
 fn bare_answer(first: u8, text: &[u8]) -> Result<Answer, Unread>
     ensures found { IfOk result (λ answer. Tells (first ∷ text.now) answer) }
-    ensures ok { ReadsTold (first ∷ text.now) result Answer.Done }
     ensures finished { ReadsTold (first ∷ text.now) result Answer.Finished }
     ensures dropped { ReadsTold (first ∷ text.now) result Answer.Dropped }
     ensures withdrawn { ReadsTold (first ∷ text.now) result Answer.Withdrawn }
 {
     match (first, text) {
-        (b'o', b"k") => Ok(Answer::Done),
         (b'f', b"inished") => Ok(Answer::Finished),
         (b'd', b"ropped") => Ok(Answer::Dropped),
         (b'w', b"ithdrawn") => Ok(Answer::Withdrawn),

@@ -59,6 +59,7 @@ fn event_by(alloc: Global, first: u8, text: &[u8]) -> Result<Event, Unread>
     ensures send { (peer : ℕ) → ReadsSpoken (first ∷ text.now) result (Event.Transmit peer) }
     ensures tick { (peer : ℕ) → ReadsSpoken (first ∷ text.now) result (Event.Tick peer) }
     ensures close { (peer : ℕ) → ReadsSpoken (first ∷ text.now) result (Event.Close peer) }
+    ensures open { (peer : ℕ) → ReadsSpoken (first ∷ text.now) result (Event.Open peer) }
 {
     match first {
         b'a' => act_event(alloc, text),
@@ -66,6 +67,7 @@ fn event_by(alloc: Global, first: u8, text: &[u8]) -> Result<Event, Unread>
         b'd' => dup_event(alloc, text),
         b'e' => export_event(text),
         b'f' => finish_event(alloc, text),
+        b'o' => open_event(alloc, text),
         b'r' => release_event(alloc, text),
         b's' => s_event(alloc, text),
         b't' => t_event(alloc, text),
@@ -146,6 +148,17 @@ fn finish_event(alloc: Global, text: &[u8]) -> Result<Event, Unread>
 {
     match text {
         [b'i', b'n', b'i', b's', b'h', b' ', rest @ ..] => finish_of(alloc, rest),
+        _ => Err(Unread::NoText),
+    }
+}
+
+// An Open, behind the first letter of its word.
+fn open_event(alloc: Global, text: &[u8]) -> Result<Event, Unread>
+    ensures found { IfOk result (λ event. Speaks (111 ∷ text.now) event) }
+    ensures open { (peer : ℕ) → ReadsSpoken (111 ∷ text.now) result (Event.Open peer) }
+{
+    match text {
+        [b'p', b'e', b'n', b' ', rest @ ..] => Ok(Event::Open(whole_space(alloc, rest)?)),
         _ => Err(Unread::NoText),
     }
 }

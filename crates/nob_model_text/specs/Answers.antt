@@ -33,6 +33,7 @@ answer_text frames (answers.Cleaned rep) = codes "cleaned " ++ rep_text rep
 answer_text frames answers.Withdrawn = codes "withdrawn"
 answer_text frames (answers.Frames given) = frames
 answer_text frames (answers.Took count) = codes "took " ++ decimal count
+answer_text frames (answers.Opened number) = codes "opened " ++ decimal number
 
 -- why an object can't be withdrawn: a number of its own behind the refusal's
 abbrev pub use_text : Use → List ℕ
@@ -56,3 +57,5 @@ refusal_text refusals.Nothing = codes "S10"
 refusal_text (refusals.StillUsed use_left) = use_text use_left
 refusal_text refusals.NoJob = codes "S12"
 refusal_text refusals.Limit = codes "S13"
+refusal_text refusals.StillOpen = codes "S15"
+refusal_text refusals.StillHeld = codes "S16"

@@ -32,6 +32,7 @@ event_text bytes (events.Transmit peer) = codes "send " ++ decimal peer
 event_text bytes (events.Arrive frame) = codes "arrive " ++ bytes
 event_text bytes (events.Tick peer) = codes "tick " ++ decimal peer
 event_text bytes (events.Close peer) = codes "close " ++ decimal peer
+event_text bytes (events.Open peer) = codes "open " ++ decimal peer
 
 -- an outcome that a text can spell
 abbrev pub IsOutcome : Outcome → Type 0
@@ -60,3 +61,4 @@ IsSpoken (events.Transmit peer) = IsSpace peer
 IsSpoken (events.Arrive frame) = ⊥
 IsSpoken (events.Tick peer) = IsSpace peer
 IsSpoken (events.Close peer) = IsSpace peer
+IsSpoken (events.Open peer) = IsSpace peer

@@ -34,6 +34,7 @@ pub fn answer_text(alloc: Global, answer: &Answer, frames: &str) -> Result<Strin
         Answer::Withdrawn => String::from_str(alloc, "withdrawn"),
         Answer::Frames(_) => String::from_str(alloc, frames),
         Answer::Took(count) => took_text(alloc, *count),
+        Answer::Opened(number) => opened_text(alloc, *number),
     }
 }
 
@@ -103,4 +104,10 @@ fn took_text(alloc: Global, count: u64) -> Result<String, AllocError>
     ensures { IfOk result (λ text. string_bytes text ≡ codes "took " ++ decimal count) }
 {
     format!(in alloc; "took {count}")
+}
+
+fn opened_text(alloc: Global, number: u32) -> Result<String, AllocError>
+    ensures { IfOk result (λ text. string_bytes text ≡ codes "opened " ++ decimal number) }
+{
+    format!(in alloc; "opened {number}")
 }

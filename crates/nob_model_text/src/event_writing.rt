@@ -38,6 +38,7 @@ pub fn event_text(alloc: Global, event: &Event, bytes: &str) -> Result<String, A
         Event::Arrive(_) => arrive_text(alloc, bytes),
         Event::Tick(peer) => about_number(alloc, "tick ", peer.get() as u64),
         Event::Close(peer) => about_number(alloc, "close ", peer.get() as u64),
+        Event::Open(peer) => about_number(alloc, "open ", peer.get() as u64),
     }
 }
 

@@ -29,6 +29,8 @@ pub fn refusal_of(text: &[u8]) -> Option<Refusal>
         b"S11(4)" => Some(Refusal::StillUsed(Use::Agent)),
         b"S12" => Some(Refusal::NoJob),
         b"S13" => Some(Refusal::Limit),
+        b"S15" => Some(Refusal::StillOpen),
+        b"S16" => Some(Refusal::StillHeld),
         _ => None,
     }
 }

@@ -23,6 +23,8 @@ pub fn refusal_text(refusal: Refusal) -> &'static str
         Refusal::StillUsed(left) => use_text(left),
         Refusal::NoJob => "S12",
         Refusal::Limit => "S13",
+        Refusal::StillOpen => "S15",
+        Refusal::StillHeld => "S16",
     }
 }
 

@@ -88,4 +88,5 @@ event_is v w (events.Transmit p) (events.Transmit q) is was same = ap events.Tra
 event_is v w (events.Arrive f) (events.Arrive g) is was same = ap events.Arrive (frame_is v w f g is was (behind (codes "arrive ") _ _ same))
 event_is v w (events.Tick p) (events.Tick q) is was same = ap events.Tick (space_is p q is was (behind (codes "tick ") _ _ same))
 event_is v w (events.Close p) (events.Close q) is was same = ap events.Close (space_is p q is was (behind (codes "close ") _ _ same))
+event_is v w (events.Open p) (events.Open q) is was same = ap events.Open (space_is p q is.1 was.1 (behind (codes "open ") _ _ same))
 event_is v w a b is was same = absurd (let k = ap key same in omega (arith, k))

@@ -58,6 +58,8 @@ refusal_key refusals.Nothing = key (codes "S10")
 refusal_key (refusals.StillUsed u) = key (codes "S11")
 refusal_key refusals.NoJob = key (codes "S12")
 refusal_key refusals.Limit = key (codes "S13")
+refusal_key refusals.StillOpen = key (codes "S15")
+refusal_key refusals.StillHeld = key (codes "S16")
 
 use_key : (u : Use) → key (use_text u) ≡ key (codes "S11")
 use_key uses.Held = refl
@@ -83,6 +85,8 @@ same_refusal refusals.Nothing refusals.Nothing keys same = refl
 same_refusal (refusals.StillUsed u) (refusals.StillUsed w) keys same = ap refusals.StillUsed (use_is u w same)
 same_refusal refusals.NoJob refusals.NoJob keys same = refl
 same_refusal refusals.Limit refusals.Limit keys same = refl
+same_refusal refusals.StillOpen refusals.StillOpen keys same = refl
+same_refusal refusals.StillHeld refusals.StillHeld keys same = refl
 same_refusal r s keys same = absurd (omega (arith, keys))
 
 refusal_is : (r s : Refusal) → refusal_text r ≡ refusal_text s → r ≡ s
@@ -181,6 +185,7 @@ answer_key (answers.Cleaned r) = key (codes "cle")
 answer_key answers.Withdrawn = key (codes "wit")
 answer_key (answers.Frames fs) = key (codes "fra")
 answer_key (answers.Took n) = key (codes "too")
+answer_key (answers.Opened n) = key (codes "ope")
 
 frames_keyed : (v : Version) (fs : List Frame) → key (frames_text v fs) ≡ key (codes "fra")
 frames_keyed v [] = refl
@@ -206,6 +211,7 @@ same_answer v w (answers.Cleaned r) (answers.Cleaned s) keys is was same = ap an
 same_answer v w answers.Withdrawn answers.Withdrawn keys is was same = refl
 same_answer v w (answers.Frames fs) (answers.Frames gs) keys is was same = ap answers.Frames (frames_is v w fs gs is was same)
 same_answer v w (answers.Took n) (answers.Took m) keys is was same = ap answers.Took (number_is n m is was (behind (codes "took ") _ _ same))
+same_answer v w (answers.Opened n) (answers.Opened m) keys is was same = ap answers.Opened (number_is n m (omega (arith, is)) (omega (arith, was)) (behind (codes "opened ") _ _ same))
 same_answer v w a b keys is was same = absurd (omega (arith, keys))
 
 answer_is : (v w : Version) (a b : Answer) → IsTracedResult v (Ok a) → IsTracedResult w (Ok b) → result_text v (Ok a) ≡ result_text w (Ok b) → a ≡ b

@@ -157,6 +157,7 @@ event version (events.Transmit p) is = word (codes "send ") (decimal p) (search 
 event version (events.Arrive f) is = word (codes "arrive ") (frame_text version f) (search rules) (frame version f)
 event version (events.Tick p) is = word (codes "tick ") (decimal p) (search rules) (space p is)
 event version (events.Close p) is = word (codes "close ") (decimal p) (search rules) (space p is)
+event version (events.Open p) is = word (codes "open ") (decimal p) (search rules) (space p is.1)
 
 -- ---- results
 
@@ -205,6 +206,8 @@ refused refusals.Nothing = search rules
 refused (refusals.StillUsed u) = used u
 refused refusals.NoJob = search rules
 refused refusals.Limit = search rules
+refused refusals.StillOpen = search rules
+refused refusals.StillHeld = search rules
 
 pub answered : (version : Version) (r : Result Answer Refusal) → IsTracedResult version r → HasNone (result_text version r)
 answered version (Ok (answers.Exported r)) is = word (codes "exported ") (rep_text r) (search rules) (rep r is.0 is.1)
@@ -222,6 +225,7 @@ answered version (Ok (answers.Cleaned r)) is = word (codes "cleaned ") (rep_text
 answered version (Ok answers.Withdrawn) is = search rules
 answered version (Ok (answers.Frames fs)) is = frames version fs
 answered version (Ok (answers.Took n)) is = word (codes "took ") (decimal n) (search rules) (number n is)
+answered version (Ok (answers.Opened n)) is = word (codes "opened ") (decimal n) (search rules) (number n (omega (arith, is)))
 answered version (Err r) is = refused r
 
 -- ---- entries

@@ -12,7 +12,7 @@ use Rattle.nob_model_types.specs.declared.answer.Answer.{Answer}
 use Rattle.nob_model_types.specs.declared.answer.Answer.TheVariants as answers
 use Rattle.nob_model_types.specs.declared.refusal.Refusal.{Refusal}
 use Rattle.nob_trace.specs.declared.stamped.Stamped.{Stamped}
-use Rattle.nob_trace.specs.Entries.{ArrivalFits, TransmitFits, HasSpelling}
+use Rattle.nob_trace.specs.Entries.{EventFits, TransmitFits, HasSpelling}
 use Rattle.nob_trace.specs.Sessions.{names_first, is_of_first, gives_first, speaks_of_first, is_known_in}
 use Rattle.nob_trace.specs.Laws.{AreKnown}
 
@@ -23,8 +23,9 @@ frames : (fs : List Frame) → AllByRecursion (Fits One) fs → list_all names_f
 frames [] all = refl
 frames (f ∷ fs) all = and_from (names_first f) (list_all names_first fs) (frame f all.0) (frames fs all.1)
 
-arrival : (e : Event) → ArrivalFits One e → is_of_first e ≡ true
+arrival : (e : Event) → EventFits One e → is_of_first e ≡ true
 arrival (events.Arrive f) fits = frame f fits
+arrival (events.Open p) fits = absurd cc
 arrival e fits = refl
 
 transmit : (r : Result Answer Refusal) → TransmitFits One r → gives_first r ≡ true

@@ -11,9 +11,9 @@ use Rattle.nob_model_types.specs.declared.answer.Answer.TheVariants as answers
 use Rattle.nob_model_types.specs.declared.refusal.Refusal.{Refusal}
 use Rattle.nob_trace.specs.declared.stamped.Stamped.{Stamped}
 use Rattle.nob_trace.specs.Frames.{IsFramed}
-use Rattle.nob_trace.specs.Entries.{ArrivalFits, TransmitFits, HasSpelling, IsTraced, IsTracedEvent, IsTracedResult}
+use Rattle.nob_trace.specs.Entries.{EventFits, TransmitFits, HasSpelling, IsTraced, IsTracedEvent, IsTracedResult}
 
-arrival : (version : Version) (event : Event) → IsTracedEvent version event → ArrivalFits version event
+arrival : (version : Version) (event : Event) → IsTracedEvent version event → EventFits version event
 arrival version events.Export is = tt
 arrival version (events.Dup r) is = tt
 arrival version (events.Release r) is = tt
@@ -29,6 +29,7 @@ arrival version (events.Transmit p) is = tt
 arrival version (events.Arrive f) is = is.0
 arrival version (events.Tick p) is = tt
 arrival version (events.Close p) is = tt
+arrival version (events.Open p) is = is.0
 
 frames : (version : Version) (fs : List Frame) → AllByRecursion (IsFramed version) fs → AllByRecursion (Fits version) fs
 frames version [] all = tt
@@ -50,6 +51,7 @@ transmit version (Ok (answers.Cleaned r)) is = tt
 transmit version (Ok answers.Withdrawn) is = tt
 transmit version (Ok (answers.Frames fs)) is = frames version fs is
 transmit version (Ok (answers.Took n)) is = tt
+transmit version (Ok (answers.Opened n)) is = tt
 transmit version (Err refusal) is = tt
 
 pub entries : (version : Version) (es : List Stamped) → AllByRecursion (IsTraced version) es → AllByRecursion (HasSpelling version) es

@@ -1,8 +1,9 @@
 -- The one spelling of each entry in traces of a version.
-use Rattle.std.specs.Prelude.{ℕ, ◌<◌, ◌^◌, List, [], ◌∷◌, ◌++◌, codes, Result, Ok, Err}
+use Rattle.std.specs.Prelude.{◌≡◌, ℕ, Bool, true, false, ◌<◌, ◌^◌, List, [], ◌∷◌, ◌++◌, codes, Result, Ok, Err}
 use Rattle.std.specs.List.{AllByRecursion}
 use Rattle.std.specs.Fmt.{decimal}
 use Rattle.nob_frame.specs.declared.version.Version.{Version}
+use Rattle.nob_frame.specs.declared.version.Version.TheVariants.{One, Two}
 use Rattle.nob_frame.specs.Spelling.{Fits}
 use Rattle.nob_model_types.specs.declared.event.Event.{Event}
 use Rattle.nob_model_types.specs.declared.event.Event.TheVariants as events
@@ -34,10 +35,21 @@ result_text version (Err refusal) = refusal_text refusal
 abbrev pub entry_text : Version → Stamped → List ℕ
 entry_text version entry = decimal entry.stamp ++ 32 ∷ (event_text (arrival_text version entry.event) entry.event ++ (codes " = " ++ result_text version entry.result))
 
--- a frame that arrives has a spelling
-abbrev pub ArrivalFits : Version → Event → Type 0
-ArrivalFits version (events.Arrive frame) = Fits version frame
-ArrivalFits version event = Unit {0}
+-- whether traces of a version have an event that opens a session anew: version 1 knows the first sessions alone
+abbrev pub can_open : Version → Bool
+can_open One = false
+can_open Two = true
+
+-- whether traces of a version have an event
+abbrev pub has_event : Version → Event → Bool
+has_event version (events.Open peer) = can_open version
+has_event version event = true
+
+-- a frame that arrives has a spelling, and a session is opened anew where the version has that
+abbrev pub EventFits : Version → Event → Type 0
+EventFits version (events.Arrive frame) = Fits version frame
+EventFits version (events.Open peer) = can_open version ≡ true
+EventFits version event = Unit {0}
 
 -- frames that a transmit gave have spellings
 abbrev pub TransmitFits : Version → Result Answer Refusal → Type 0
@@ -45,13 +57,14 @@ TransmitFits version (Ok (answers.Frames frames)) = AllByRecursion (Fits version
 TransmitFits version (Ok answer) = Unit {0}
 TransmitFits version (Err refusal) = Unit {0}
 
--- an entry in which each frame has a spelling
+-- an entry in which each frame has a spelling, and whose event the version has
 abbrev pub HasSpelling : Version → Stamped → Type 0
-HasSpelling version entry = ArrivalFits version entry.event × TransmitFits version entry.result
+HasSpelling version entry = EventFits version entry.event × TransmitFits version entry.result
 
--- an event that a trace can have: one that a script can have, or the arrival of a frame that bytes spell
+-- an event that a trace of a version can have: one that a script can have, unless it opens a session and the version has no such event, or the arrival of a frame that bytes spell
 abbrev pub IsTracedEvent : Version → Event → Type 0
 IsTracedEvent version (events.Arrive frame) = IsFramed version frame
+IsTracedEvent version (events.Open peer) = (can_open version ≡ true) × IsSpoken (events.Open peer)
 IsTracedEvent version event = IsSpoken event
 
 -- a result that a trace can have: a refusal, frames that bytes spell, or another answer whose numbers are of their types

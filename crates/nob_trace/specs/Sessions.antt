@@ -1,5 +1,5 @@
 -- Which traces speak of the first session alone, as each trace of version 1 does.
-use Rattle.std.specs.Prelude.{◌&&◌, Bool, true, nat_le, List, Result, Ok, Err}
+use Rattle.std.specs.Prelude.{◌&&◌, Bool, true, false, nat_le, List, Result, Ok, Err}
 use Rattle.std.specs.List.{list_all}
 use Rattle.nob_frame.specs.declared.frame.Frame.{Frame}
 use Rattle.nob_frame.specs.declared.version.Version.{Version}
@@ -16,9 +16,10 @@ use Rattle.nob_trace.specs.declared.trace.Trace.{Trace}
 abbrev pub names_first : Frame → Bool
 names_first frame = nat_le frame.session 1
 
--- whether an event speaks of no session after the first: one that opens a session again would speak of one, and there is none as yet
+-- whether an event speaks of no session after the first: one that opens a session anew speaks of such a session
 abbrev pub is_of_first : Event → Bool
 is_of_first (events.Arrive frame) = names_first frame
+is_of_first (events.Open peer) = false
 is_of_first event = true
 
 -- whether a result gives no frame of a session after the first

@@ -48,6 +48,6 @@ pub record IsTrace (trace : Trace) : Type 0 where
   pub rise : Rise 0 trace.entries
   pub entries : AllByRecursion (IsTraced trace.version) trace.entries
 
--- a trace in which each frame has a spelling of its version
+-- a trace in which each frame has a spelling of its version, and whose events its version has
 abbrev pub IsWritable : Trace → Type 0
 IsWritable trace = AllByRecursion (HasSpelling trace.version) trace.entries

@@ -13,6 +13,7 @@ ghost use Rattle.nob_model_reading.specs.Told.{IsTold};
 ghost use Rattle.nob_trace.specs.declared.stamped.Stamped.{Stamped as StampedOf};
 ghost use Rattle.nob_trace.specs.Frames.{IsFramed, frame_text};
 ghost use Rattle.nob_trace.specs.Entries.{IsTraced, IsTracedEvent, IsTracedResult, arrival_text, entry_text, result_text};
+ghost use Rattle.nob_trace.specs.Entries as entries;
 ghost use Rattle.nob_trace.specs.Reading.{Lacks};
 
 use crate::frame_reading::{whole_frame, whole_frames};
@@ -98,16 +99,37 @@ fn arrival_of(alloc: Global, version: Version, text: &[u8]) -> Result<Event, Unr
     Ok(Event::Arrive(whole_frame(alloc, version, text)?))
 }
 
-// The event of a script that a text spells, which stands so in traces of each version.
+// The event of a script that a text spells, which stands so in traces of each version that has it.
 fn script_event(alloc: Global, version: Version, text: &[u8]) -> Result<Event, Unread>
     ensures found { IfOk result (λ event. IsTracedEvent version event
         × (text.now ≡ event_text (arrival_text version event) event)) }
-    ensures only { (event : EventOf) → IsSpoken event → text.now ≡ event_text [] event
-        → Reads (λ e. e ≡ event) result }
+    ensures only { (event : EventOf) → IsSpoken event → IsTracedEvent version event
+        → text.now ≡ event_text [] event → Reads (λ e. e ≡ event) result }
 {
-    match whole_event(alloc, text) {
-        Ok(event) => Ok(event),
-        Err(unread) => Err(unread),
+    let event = whole_event(alloc, text)?;
+    if !has_event(version, &event) {
+        return Err(Unread::NoText);
+    }
+    Ok(event)
+}
+
+// Whether traces of a version have an event: version 1 has none that opens a session anew.
+fn has_event(version: Version, event: &Event) -> bool
+    ensures { result ≡ entries.has_event version event.now }
+{
+    match event {
+        Event::Open(_) => can_open(version),
+        _ => true,
+    }
+}
+
+// Whether traces of a version have an event that opens a session anew.
+fn can_open(version: Version) -> bool
+    ensures { result ≡ entries.can_open version }
+{
+    match version {
+        Version::One => false,
+        Version::Two => true,
     }
 }
 

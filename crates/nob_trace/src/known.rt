@@ -39,6 +39,7 @@ fn is_of_first(event: &Event) -> bool
 {
     match event {
         Event::Arrive(frame) => frame.session <= 1,
+        Event::Open(_) => false,
         _ => true,
     }
 }

@@ -100,7 +100,8 @@ fn put_entries(
     Ok(())
 }
 
-/// The text of an entry in a trace of this version, or R2 where a frame in it has no spelling.
+/// The text of an entry in a trace of this version, or R2 where a frame in it has no spelling, or
+/// the version hasn't such an event.
 pub fn entry_text(alloc: Global, version: Version, entry: &Stamped) -> Result<String, TraceError>
     ensures { Writes (λ text. string_bytes text ≡ entries.entry_text version entry.now)
         (entries.HasSpelling version entry.now) result }
@@ -111,18 +112,30 @@ pub fn entry_text(alloc: Global, version: Version, entry: &Stamped) -> Result<St
     Ok(format!(in alloc; "{stamp} {event} = {answer}")?)
 }
 
-// The text of an event in a trace.
+// The text of an event in a trace, or R2 where the version hasn't such an event.
 fn traced_event_text(alloc: Global, version: Version, event: &Event) -> Result<String, TraceError>
     ensures { Writes (λ text. string_bytes text
         ≡ events.event_text (entries.arrival_text version event.now) event.now)
-        (entries.ArrivalFits version event.now) result }
+        (entries.EventFits version event.now) result }
 {
     match event {
         Event::Arrive(frame) => {
             let bytes = frame_text(alloc, version, frame)?;
             Ok(event_text(alloc, event, bytes.as_str())?)
         }
+        Event::Open(_) => opening_text(alloc, version, event),
         _ => Ok(event_text(alloc, event, "")?),
+    }
+}
+
+// The text of an event that opens a session, or R2 where the version has none.
+fn opening_text(alloc: Global, version: Version, event: &Event) -> Result<String, TraceError>
+    ensures { Writes (λ text. string_bytes text ≡ events.event_text [] event.now)
+        (entries.can_open version ≡ true) result }
+{
+    match version {
+        Version::One => Err(TraceError::Fault(TraceFault::Entry)),
+        Version::Two => Ok(event_text(alloc, event, "")?),
     }
 }
 
