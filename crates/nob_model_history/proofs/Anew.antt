@@ -1,7 +1,7 @@
 -- An Open: the words of its peer begin anew, and those of each other peer are as before.
-use Rattle.std.proofs.Common.{◌≡◌, ℕ, ◌&&◌, ◌||◌, not, Bool, true, false, cond, List, [], ◌∷◌, Option, None, Ok, refl, sym, ap, subst, ◌∙◌}
+use Rattle.std.proofs.Common.{◌≡◌, ℕ, ◌&&◌, ◌||◌, not, Bool, true, false, cond, List, [], ◌∷◌, map, None, Ok, refl, sym, ap, subst, ◌∙◌}
 use Rattle.std.specs.Prelude.{◌==◌, option_and_then}
-use Rattle.std.proofs.lemmas.Bool.{eq-eqb}
+use Rattle.std.proofs.lemmas.Bool.{eq-eqb, both_ways}
 use Rattle.nob_ids.specs.declared.wire_rep.WireRep.{WireRep}
 use Rattle.nob_model_session.specs.declared.entry.EndEntry.{EndEntry}
 use Rattle.nob_model_session.specs.declared.entry.EndEntry.TheVariants as ends
@@ -12,8 +12,16 @@ use Rattle.nob_model_types.specs.declared.deed.Deed.{Deed}
 use Rattle.nob_model_types.specs.declared.deed.Deed.TheVariants as did
 use Rattle.nob_model_types.specs.Deeds.{deeds}
 use Rattle.nob_model_types.specs.Sessions.{is_peer, closed, number, accepted_from, payload_at, item_spelt, item_at, acted}
+use Rattle.nob_model_types.specs.declared.message.Loan.{Loan}
+use Rattle.nob_model_types.specs.declared.message.Loan.TheVariants as loans
+use Rattle.nob_model_types.specs.declared.message.RefCopy.{RefCopy}
+use Rattle.nob_model_types.specs.declared.message.Message.{Message}
+use Rattle.nob_model_types.specs.Messages.{loan_after, copy_after, message_after}
+use Rattle.nob_model_types.specs.declared.turns.Turns.{Turns}
 use Rattle.nob_model_types.specs.Turns.{no_turns, turns, is_own, is_granted, is_refused, is_usable, is_lost, is_resolved}
-use Rattle.nob_model_work.specs.Work.{work}
+use Rattle.nob_model_work.specs.declared.work.Outstanding.{Outstanding}
+use Rattle.nob_model_work.specs.declared.work.Run.{Run}
+use Rattle.nob_model_work.specs.Work.{work, work_after, with_loans, run_after}
 use Rattle.nob_model_work.specs.Gifts.{gifts, gifts_of}
 use Rattle.nob_model_history.specs.Histories.{history, history_of}
 use Rattle.nob_model_history.specs.Ends.{items_to, with_sends, calls_at}
@@ -142,3 +150,53 @@ dirties_opened s n q k D = refl
 pub order_opened : (s n q k : ℕ) (D : List Deed) → by_last_dirty (history_of s n (did.Open q k ∷ D)) ≡ by_last_dirty (history_of s n D)
 unfolding gifts gifts_of
 order_opened s n q k D = refl
+
+-- ---- what is outstanding
+
+opened_usable : (b : Bool) (t : Turns) (ended : Bool) → (is_granted (cond b no_turns t) && not (cond b false ended)) ≡ true → (is_granted t && not ended) ≡ true
+opened_usable true t ended usable = cc
+opened_usable false t ended usable = usable
+
+-- an Open makes nothing usable
+pub usable_before : (s n q k : ℕ) (rep : WireRep) (D : List Deed) → is_usable s n rep (did.Open q k ∷ D) ≡ true → is_usable s n rep D ≡ true
+usable_before s n q k rep D usable = opened_usable (q == rep.owner) (turns s n rep D) (closed rep.owner D) usable
+
+again : {A : Type 0} (f g : A → A) → ((x : A) → f (g x) ≡ g x) → (xs : List A) → map f (map g xs) ≡ map g xs
+again f g same [] = refl
+again {A} f g same (x ∷ xs) = ap (λ (y : A). y ∷ map f (map g xs)) (same x) ∙ ap (λ (ys : List A). g x ∷ ys) (again f g same xs)
+
+loan_again : (later now : Bool) (loan : Loan) → (later ≡ true → now ≡ true) → loan_after later (loan_after now loan) ≡ loan_after now loan
+loan_again later true loans.Due before = refl
+loan_again true false loans.Due before = absurd (both_ways false refl (before refl))
+loan_again false false loans.Due before = refl
+loan_again later now loans.Lent before = refl
+loan_again later now loans.Never before = refl
+
+own_or : (own later now : Bool) → (later ≡ true → now ≡ true) → (own || later) ≡ true → (own || now) ≡ true
+own_or true later now before either = refl
+own_or false later now before either = before either
+
+copy_again : (s n q k : ℕ) (D : List Deed) (copy : RefCopy) → copy_after s n (did.Open q k ∷ D) (copy_after s n D copy) ≡ copy_after s n D copy
+unfolding copy_after
+copy_again s n q k D copy = ap (λ (loan : Loan). record { rep = copy.rep; loan = loan }) (loan_again (is_own s copy.rep || is_usable s n copy.rep (did.Open q k ∷ D)) (is_own s copy.rep || is_usable s n copy.rep D) copy.loan (own_or (is_own s copy.rep) _ _ (usable_before s n q k copy.rep D)))
+
+message_again : (s n q k : ℕ) (D : List Deed) (message : Message) → message_after s n (did.Open q k ∷ D) (message_after s n D message) ≡ message_after s n D message
+unfolding message_after
+message_again s n q k D message = ap (λ (copies : List RefCopy). record { from = message.from; session = message.session; number = message.number; item = message.item; copies = copies }) (again (λ copy. copy_after s n (did.Open q k ∷ D) copy) (λ copy. copy_after s n D copy) (copy_again s n q k D) message.copies)
+
+run_again : (s n q k : ℕ) (D : List Deed) (run : Run) → run_after s n (did.Open q k ∷ D) (run_after s n D run) ≡ run_after s n D run
+unfolding run_after
+run_again s n q k D run = ap (λ (message : Message). record { job = run.job; message = message }) (message_again s n q k D run.message)
+
+loans_again : (s n q k : ℕ) (D : List Deed) (W : Outstanding) → with_loans s n (did.Open q k ∷ D) (with_loans s n D W) ≡ with_loans s n D W
+unfolding with_loans
+loans_again s n q k D W =
+    let messages = λ (ms : List Message). again (λ message. message_after s n (did.Open q k ∷ D) message) (λ message. message_after s n D message) (message_again s n q k D) ms in
+    let runs = again (λ run. run_after s n (did.Open q k ∷ D) run) (λ run. run_after s n D run) (run_again s n q k D) W.running in
+    λ i. record { waiting = messages W.waiting i; ready = messages W.ready i; running = runs i; replies = messages W.replies i; calls = W.calls }
+
+-- an Open leaves what is outstanding
+pub work_opened : (s n q k : ℕ) (D : List Deed) → work s n (did.Open q k ∷ D) ≡ work s n D
+unfolding work_after with_loans
+work_opened s n q k [] = refl
+work_opened s n q k (deed ∷ D) = loans_again s n q k (deed ∷ D) (work_after s n deed D (work s n D))

@@ -1,12 +1,11 @@
 -- A session that was opened anew: every word that is read for its peer is a new session's.
-use Rattle.std.specs.Prelude.{◌≡◌, ℕ, false, List, [], ◌∷◌, Option, None, Ok}
+use Rattle.std.specs.Prelude.{◌≡◌, ℕ, false, List, [], ◌∷◌, None, Ok}
 use Rattle.nob_ids.specs.declared.wire_rep.WireRep.{WireRep}
 use Rattle.nob_model_session.specs.declared.entry.EndEntry.{EndEntry}
 use Rattle.nob_model_session.specs.End as end
 use Rattle.nob_model_types.specs.declared.event.Event.TheVariants as events
 use Rattle.nob_model_types.specs.declared.answer.Answer.TheVariants as answers
 use Rattle.nob_model_types.specs.declared.entry.Entry.{Entry}
-use Rattle.nob_model_types.specs.declared.deed.Deed.{Deed}
 use Rattle.nob_model_types.specs.Sessions as sessions
 use Rattle.nob_model_types.specs.Turns.{no_turns, turns}
 use Rattle.nob_model_history.specs.declared.history.History.{History}
