@@ -392,13 +392,17 @@ closing_right s n limits p reason causes.Asked D right =
     let told = (close_tells s n p reason (history_of s n D) (was_answered s n limits (did.Closing p reason causes.Asked) D right)).1 in
     closes_right p reason (calls_at p (history_of s n D)) (closed_up (is_open (calls_at p (history_of s n D))) (record { peer = p; reason = Asked }) told.0 told.1)
 
-reopen_step : (up free : Bool) → up ≡ false → free ≡ true → Ok tt ≡ cond up (Err end_refusals.StillOpen) (cond (not free) (Err end_refusals.Number) (Ok tt))
+-- a result of a reopening that is no refusal
+abbrev reopens : Result Unit EndRefusal
+reopens = Ok tt
+
+reopen_step : (up free : Bool) → up ≡ false → free ≡ true → reopens ≡ cond up (Err end_refusals.StillOpen) (cond (not free) (Err end_refusals.Number) (Ok tt))
 reopen_step true free shut is = absurd (both_ways true shut refl)
 reopen_step false true shut is = refl
 reopen_step false false shut is = absurd (both_ways false refl is)
 
 -- the call by which a right deed opened the session with p anew is right: the end is closed, and the number is free
-opening_right : (s n : ℕ) (limits : Limits) (p k : ℕ) (D : List Deed) → IsRightDeed s n limits (did.Open p k) D → Ok tt ≡ right_reopen k (calls_at p (history_of s n D))
+opening_right : (s n : ℕ) (limits : Limits) (p k : ℕ) (D : List Deed) → IsRightDeed s n limits (did.Open p k) D → reopens ≡ right_reopen k (calls_at p (history_of s n D))
 opening_right s n limits p k D right =
     let calls : List EndEntry = calls_at p (history_of s n D) in
     let same : number calls ≡ deed_number p D = number_is s n p D in
@@ -430,7 +434,7 @@ own_right s n limits p (did.Closing q reason cause) D right are =
     (λ own. subst (λ (r : ℕ). end.IsRight s r limits (call_of_closing r reason cause) (calls_at r (history_of s n D))) (eqb-true q p own) (closing_right s n limits q reason cause D right)) are
 own_right s n limits p (did.Open q k) D right are =
     if_right s p limits (q == p) (ends.Reopen k (Ok tt)) (calls_at p (history_of s n D))
-    (λ own. subst (λ (r : ℕ). Ok tt ≡ right_reopen k (calls_at r (history_of s n D))) (eqb-true q p own) (opening_right s n limits q k D right)) are
+    (λ own. subst (λ (r : ℕ). reopens ≡ right_reopen k (calls_at r (history_of s n D))) (eqb-true q p own) (opening_right s n limits q k D right)) are
 own_right s n limits p deed D right are = are
 
 -- in a list of right deeds the calls on the end with each peer are right
