@@ -45,6 +45,17 @@ pub(crate) fn is_done_in(seat: &Seat) -> Option<()>
     }
 }
 
+// The number of the session that was opened.
+pub(crate) fn opened_in(seat: &Seat) -> Option<u32>
+    ensures { IfSome result (λ number. IsNewest seat.now (Ok (answers.Opened number))) }
+{
+    let receipt = seat.newest()?;
+    match &receipt.result {
+        Ok(Answer::Opened(number)) => Some(*number),
+        _ => None,
+    }
+}
+
 // The number of the call that was made.
 pub(crate) fn call_in(seat: &Seat) -> Option<CallNo>
     ensures { IfSome result (λ call. IsNewest seat.now (Ok (answers.Called call))) }

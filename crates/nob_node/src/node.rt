@@ -8,7 +8,7 @@ ghost use Rattle.nob_keeper.specs.declared.receipt.Receipt.{Receipt as ReceiptOf
 ghost use Rattle.nob_keeper.specs.Summaries as summaries;
 ghost use Rattle.nob_node.specs.Calls as calls;
 
-use crate::answers::{call_in, exported_in, is_done_in, refusal_in, returned_in};
+use crate::answers::{call_in, exported_in, is_done_in, opened_in, refusal_in, returned_in};
 use crate::error::NodeError;
 use crate::hold::{Hold, Returned};
 use nob_bytes::Bytes;
@@ -153,13 +153,32 @@ impl<'x, B: Object> Node<'x, B> {
         }
     }
 
-    /// Closes the session with a peer. J1, J2 (S1, S2).
+    /// Closes the session with a peer. J1, J2 (S1, S2). A hold that the application keeps of an object
+    /// of that peer, and a name of this node's agent that stands for one, hinder that the session is
+    /// opened anew.
     pub fn close<R: Wait>(&mut self, rt: &R, peer: SpaceId) -> Result<(), NodeError>
         ensures asked { OnOk result (calls.IsAsked self.old self.new (events.Close peer)) }
         ensures refused { IfErr result (λ error.
             calls.IsRefusal self.old self.new (events.Close peer) error) }
     {
         self.ask(rt, &Event::Close(peer))
+    }
+
+    /// Opens a session with a peer anew, after a close: its number. What is under way in the old one
+    /// stays lost, and nothing is opened unasked. J1, J2: S1, S15 where the session is open here, S16
+    /// while something of the peer's objects is left here, such as a hold, or a name of this node's
+    /// agent that stands for one, S13 where no number is left.
+    pub fn open<R: Wait>(&mut self, rt: &R, peer: SpaceId) -> Result<u32, NodeError>
+        ensures opened { IfOk result (λ number. calls.Answered self.old self.new
+            (events.Open peer) (Ok (answers.Opened number))) }
+        ensures refused { IfErr result (λ error.
+            calls.IsRefusal self.old self.new (events.Open peer) error) }
+    {
+        self.ask(rt, &Event::Open(peer))?;
+        match opened_in(&self.seat) {
+            Some(number) => Ok(number),
+            None => Err(STRANGE),
+        }
     }
 
     /// Calls a method of the object that a hold is on, and waits for what it returns. The value comes

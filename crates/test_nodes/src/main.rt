@@ -4,12 +4,14 @@
 
 mod lasting;
 mod player;
+mod reopening;
 mod running;
 mod shared;
 mod thing;
 
 use crate::lasting::play_lasting;
 use crate::player::{Part, Said};
+use crate::reopening::{Reopened, play_reopening};
 use crate::running::{play, play_alone};
 use std::alloc::Global;
 use std::io;
@@ -44,7 +46,8 @@ fn run<R: Threads + Wait + Sync + Print>(rt: &R, alloc: Global) -> io::Result<()
         &alone,
         0,
     )?;
-    print_lasting(rt, alloc)
+    print_lasting(rt, alloc)?;
+    print_reopening(rt, alloc)
 }
 
 // Plays the scene of two nodes that keep nothing, and prints what it came to.
@@ -64,14 +67,39 @@ fn print_lasting<R: Threads + Wait + Sync + Print>(rt: &R, alloc: Global) -> io:
     println!(rt; "the session is open at both: {is_open}; live objects: {live}")
 }
 
+// Plays the scene of two nodes that close their session and open it anew, and prints what it came to.
+fn print_reopening<R: Threads + Wait + Sync + Print>(rt: &R, alloc: Global) -> io::Result<()> {
+    let Some((owner, caller)) = play_reopening(rt, alloc) else {
+        return println!(rt; "nodes that open their session anew: the scene failed");
+    };
+    print_reopened(rt, "the owner", &owner)?;
+    print_reopened(rt, "the caller", &caller)?;
+    print_said(rt, "a call before the close", caller.before)?;
+    print_said(rt, "a call in the new session", caller.after)
+}
+
+// Prints what closing and opening the session came to at one node.
+fn print_reopened<R: Print>(rt: &R, name: &str, seen: &Reopened) -> io::Result<()> {
+    let is_right = seen.was_open && seen.is_closed;
+    match seen.number {
+        Some(number) => println!(rt; "{name} closed its session: {is_right}, and opened {number}"),
+        None => println!(rt; "{name} closed its session: {is_right}, and opened none"),
+    }
+}
+
 // Prints what the calls of one application came to.
 fn print<R: Print>(rt: &R, name: &str, all: &Option<Vec<Said>>, place: usize) -> io::Result<()> {
     let Some(all) = all else {
         return println!(rt; "{name}: the scene failed");
     };
-    match all.get(place) {
-        Some(Said::Number(number)) => println!(rt; "{name}: {number}"),
-        Some(Said::Ended) => println!(rt; "{name}: ended"),
-        _ => println!(rt; "{name}: something else"),
+    print_said(rt, name, all.get(place).copied().unwrap_or(Said::Other))
+}
+
+// Prints what a call came to.
+fn print_said<R: Print>(rt: &R, name: &str, said: Said) -> io::Result<()> {
+    match said {
+        Said::Number(number) => println!(rt; "{name}: {number}"),
+        Said::Ended => println!(rt; "{name}: ended"),
+        Said::Other => println!(rt; "{name}: something else"),
     }
 }
