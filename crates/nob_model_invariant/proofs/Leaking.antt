@@ -362,7 +362,7 @@ own_held false own rest is none = refl
 
 -- in every run of a world no object leaks
 pub leaks : LeaksLaw
-leaks n limits J run opens quiet o x alive unused =
+leaks n limits J run quiet o x alive unused =
     let range = owner_range n limits J run o x alive in
     free_withdrawn o x (history_at o n J) (live_counted n limits J run o x alive) alive
     (own_held (is_held o (own_ref o x) (history_at o n J)) (is_own o (own_ref o x)) (both_open o o J) (eq-eqb o o refl) (unused o range.0 range.1))

@@ -1,13 +1,8 @@
--- No object leaks: where no session was opened anew, once all is quiet, each live object that no space can use can be
--- withdrawn.
-use Rattle.std.specs.Prelude.{◌≡◌, ◌≤◌, ◌⊎◌, ℕ, Bool, true, false, List, Option, Some, Err, Ok}
-use Rattle.std.specs.List.{AllByRecursion}
+-- No object leaks: once all is quiet, each live object that no space can use can be withdrawn.
+use Rattle.std.specs.Prelude.{◌≡◌, ◌≤◌, ◌⊎◌, ℕ, true, false, List, Err, Ok}
 use Rattle.nob_model_types.specs.declared.answer.Answer.TheVariants as answers
 use Rattle.nob_model_types.specs.declared.refusal.Refusal.TheVariants as refusals
 use Rattle.nob_model_types.specs.declared.entry.Entry.{Entry}
-use Rattle.nob_model_types.specs.declared.deed.Deed.{Deed}
-use Rattle.nob_model_types.specs.declared.deed.Deed.TheVariants.{Open}
-use Rattle.nob_model_types.specs.Deeds.{deed_in}
 use Rattle.nob_model_types.specs.Sessions.{is_peer}
 use Rattle.nob_model_types.specs.Objects.{is_live}
 use Rattle.nob_model.specs.Right.{own_ref, right_settle, right_clean, right_withdraw}
@@ -33,15 +28,6 @@ pub record Quiet (n : ℕ) (J : List Entry) : Type 0 where
   pub none_settles : (s : ℕ) → 1 ≤ s → s ≤ n → right_settle s n (history_at s n J) ≡ Err refusals.Nothing
   pub none_cleans : (s : ℕ) → 1 ≤ s → s ≤ n → right_clean s n (history_at s n J) ≡ Err refusals.Nothing
 
--- whether a deed opened a session anew
-abbrev pub is_opening : Option Deed → Bool
-is_opening (Some (Open p k)) = true
-is_opening _ = false
-
--- no session was opened anew
-abbrev pub NoOpens : List Entry → Type 0
-NoOpens J = AllByRecursion (λ entry. is_opening (deed_in entry) ≡ false) J
-
--- no object leaks: where no session was opened anew and all is quiet, each live object that no space can use can be withdrawn
+-- no object leaks: where all is quiet, each live object that no space can use can be withdrawn
 abbrev pub NoLeak : ℕ → List Entry → Type 0
-NoLeak n J = NoOpens J → Quiet n J → (o x : ℕ) → is_live o x (deeds_at o J) ≡ true → ((c : ℕ) → 1 ≤ c → c ≤ n → can_use n c (own_ref o x) J ≡ false) → right_withdraw o x (history_at o n J) ≡ Ok answers.Withdrawn
+NoLeak n J = Quiet n J → (o x : ℕ) → is_live o x (deeds_at o J) ≡ true → ((c : ℕ) → 1 ≤ c → c ≤ n → can_use n c (own_ref o x) J ≡ false) → right_withdraw o x (history_at o n J) ≡ Ok answers.Withdrawn

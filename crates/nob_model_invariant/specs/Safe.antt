@@ -20,7 +20,7 @@ pub record IsSafe (n : ℕ) (J : List Entry) : Type 0 where
   pub losses : NoFalseLoss n J
   -- every reference is found: no session is closed for a fault in what came over it
   pub found : Found J
-  -- no object leaks: where no session was opened anew, once all is quiet, each live object that no space can use can be withdrawn
+  -- no object leaks: once all is quiet, each live object that no space can use can be withdrawn
   pub leaks : NoLeak n J
 
 -- every run of a world is safe, each space with limits of its own

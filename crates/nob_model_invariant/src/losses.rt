@@ -50,8 +50,8 @@ pub fn losses()
     ensures { LossesLaw }
 {}
 
-/// In every run of a world in which no session was opened anew no object leaks: once all is quiet,
-/// each live object that no space can use can be withdrawn.
+/// In every run of a world no object leaks: once all is quiet, each live object that no space can
+/// use can be withdrawn.
 #[tactic(auto, using(crate::proofs::Leaking::leaks))]
 pub fn leaks()
     ensures { LeaksLaw }
