@@ -4,59 +4,59 @@ use mathlib.Core.Option.{some, some-injective, some-ne-none}
 use lib.ListN.{get_elem?}
 use Rattle.crossbeam_channel.specs.Fifo.{Pushes, Pops, Forks, Merges, Learns}
 use Rattle.atomic_table.proofs.Lists.{at_set, at_snoc}
-use Rattle.nob_dispatch_lanes.specs.declared.rule.Tally.{Tally}
-use Rattle.nob_dispatch_lanes.specs.Balance.{tally, all_parts, weigh, count, total, IdleIsEmpty, IsBalanced}
+use Rattle.nob_dispatch_lanes.specs.declared.rule.Knowledge.{Knowledge}
+use Rattle.nob_dispatch_lanes.specs.Balance.{knowing, all_parts, weigh, count, total, IdleIsEmpty, IsBalanced}
 
 pub weigh_append : {X : Type 0} (h : X → ℕ) (xs ys : List X) → weigh h (xs ++ ys) ≡ weigh h xs + weigh h ys
 weigh_append h [] ys = omega arith
 weigh_append h (x ∷ xs) ys = omega (arith, weigh_append h xs ys)
 
 -- a total after a change of one view
-total_set : {X : Type 0} (f : Tally X → ℕ) (views : List (Tally X)) (end : ℕ) (v w : Tally X) → get_elem? views end ≡ some v → total f (set views end w) + f v ≡ total f views + f w
+total_set : {X : Type 0} (f : Knowledge X → ℕ) (views : List (Knowledge X)) (end : ℕ) (v w : Knowledge X) → get_elem? views end ≡ some v → total f (set views end w) + f v ≡ total f views + f w
 total_set f [] end v w e = absurd (some-ne-none v (sym e))
 total_set f (x ∷ xs) zero v w e = omega (arith, ap f (some-injective x v e))
 total_set f (x ∷ xs) (suc end) v w e = omega (arith, total_set f xs end v w e)
 
 -- a total with one view more
-total_snoc : {X : Type 0} (f : Tally X → ℕ) (views : List (Tally X)) (w : Tally X) → total f (views ++ w ∷ []) ≡ total f views + f w
+total_snoc : {X : Type 0} (f : Knowledge X → ℕ) (views : List (Knowledge X)) (w : Knowledge X) → total f (views ++ w ∷ []) ≡ total f views + f w
 total_snoc f [] w = omega arith
 total_snoc f (x ∷ xs) w = omega (arith, total_snoc f xs w)
 
 -- one view has no more than all have
-at_most : {X : Type 0} (f : Tally X → ℕ) (views : List (Tally X)) (end : ℕ) (v : Tally X) → get_elem? views end ≡ some v → f v ≤ total f views
+at_most : {X : Type 0} (f : Knowledge X → ℕ) (views : List (Knowledge X)) (end : ℕ) (v : Knowledge X) → get_elem? views end ≡ some v → f v ≤ total f views
 at_most f [] end v e = absurd (some-ne-none v (sym e))
 at_most f (x ∷ xs) zero v e = omega (arith, ap f (some-injective x v e))
 at_most f (x ∷ xs) (suc end) v e = omega (arith, at_most f xs end v e)
 
 -- where no view has a part, none has anything
-none_has : {X : Type 0} (f : Tally X → ℕ) (views : List (Tally X)) → total (λ u. u.parts) views ≡ 0 → ((end : ℕ) (u : Tally X) → get_elem? views end ≡ some u → u.parts ≡ 0 → f u ≡ 0) → total f views ≡ 0
+none_has : {X : Type 0} (f : Knowledge X → ℕ) (views : List (Knowledge X)) → total (λ u. u.parts) views ≡ 0 → ((end : ℕ) (u : Knowledge X) → get_elem? views end ≡ some u → u.parts ≡ 0 → f u ≡ 0) → total f views ≡ 0
 none_has f [] none zeros = refl
 none_has f (x ∷ xs) none zeros =
     let here : f x ≡ 0 = zeros zero x refl (omega (arith, none)) in
     let rest : total f xs ≡ 0 = none_has f xs (omega (arith, none)) (λ end u e. zeros (suc end) u e) in omega (arith, here, rest)
 
 -- where one view has every part, it has all
-one_has : {X : Type 0} (f : Tally X → ℕ) (views : List (Tally X)) (end : ℕ) (v : Tally X) → get_elem? views end ≡ some v → total (λ u. u.parts) views ≡ v.parts → ((end : ℕ) (u : Tally X) → get_elem? views end ≡ some u → u.parts ≡ 0 → f u ≡ 0) → total f views ≡ f v
+one_has : {X : Type 0} (f : Knowledge X → ℕ) (views : List (Knowledge X)) (end : ℕ) (v : Knowledge X) → get_elem? views end ≡ some v → total (λ u. u.parts) views ≡ v.parts → ((end : ℕ) (u : Knowledge X) → get_elem? views end ≡ some u → u.parts ≡ 0 → f u ≡ 0) → total f views ≡ f v
 one_has f [] end v e whole zeros = absurd (some-ne-none v (sym e))
 one_has f (x ∷ xs) zero v e whole zeros =
     let is : x ≡ v = some-injective x v e in
-    let rest : total f xs ≡ 0 = none_has f xs (omega (arith, whole, ap (λ (u : Tally _). u.parts) is)) (λ end u e. zeros (suc end) u e) in omega (arith, rest, ap f is)
+    let rest : total f xs ≡ 0 = none_has f xs (omega (arith, whole, ap (λ (u : Knowledge _). u.parts) is)) (λ end u e. zeros (suc end) u e) in omega (arith, rest, ap f is)
 one_has f (x ∷ xs) (suc end) v e whole zeros =
     let most = at_most (λ u. u.parts) xs end v e in
     let here : f x ≡ 0 = zeros zero x refl (omega (arith, whole, most)) in
     let rest : total f xs ≡ f v = one_has f xs end v e (omega (arith, whole, most)) (λ end u e. zeros (suc end) u e) in omega (arith, here, rest)
 
 -- ends without a part have nothing, after a change of one view
-idle_set : {X : Type 0} (views : List (Tally X)) (end : ℕ) (w : Tally X) → (w.parts ≡ 0 → (w.given ≡ []) × (w.got ≡ [])) → IdleIsEmpty views → IdleIsEmpty (set views end w)
+idle_set : {X : Type 0} (views : List (Knowledge X)) (end : ℕ) (w : Knowledge X) → (w.parts ≡ 0 → (w.given ≡ []) × (w.got ≡ [])) → IdleIsEmpty views → IdleIsEmpty (set views end w)
 idle_set views end w mine idle j u e none =
-    ⊎_elim (λ (x : (j ≡ end) × (w ≡ u)). subst (λ (y : Tally _). (y.given ≡ []) × (y.got ≡ [])) x.1 (mine (ap (λ (y : Tally _). y.parts) x.1 ∙ none)))
+    ⊎_elim (λ (x : (j ≡ end) × (w ≡ u)). subst (λ (y : Knowledge _). (y.given ≡ []) × (y.got ≡ [])) x.1 (mine (ap (λ (y : Knowledge _). y.parts) x.1 ∙ none)))
     (λ (x : (j ≢ end) × (get_elem? views j ≡ some u)). idle j u x.1 none) (at_set views end j w u e)
 
 module _ {X : Type 0} where
   -- a giving keeps the rule where the lane holds fewer than 1,024 errands
-  pub gives : (n end : ℕ) (v : Tally X) (x : X) → n ≤ 1024 → 0 < v.parts → Pushes IsBalanced n end v x (λ w. w ≡ tally v.parts (v.given ++ x ∷ []) v.got)
+  pub gives : (n end : ℕ) (v : Knowledge X) (x : X) → n ≤ 1024 → 0 < v.parts → Pushes IsBalanced n end v x (λ w. w ≡ knowing v.parts (v.given ++ x ∷ []) v.got)
   gives n end v x most some_part queued views room b at =
-      let w : Tally X = tally v.parts (v.given ++ x ∷ []) v.got in (
+      let w : Knowledge X = knowing v.parts (v.given ++ x ∷ []) v.got in (
         w,
         record {
           whole = (let s = total_set (λ u. u.parts) views end v w at in omega (arith, s, b.whole));
@@ -70,9 +70,9 @@ module _ {X : Type 0} where
       )
 
   -- a getting keeps the rule
-  pub gets : (end : ℕ) (v : Tally X) → 0 < v.parts → Pops IsBalanced end v (λ x w. w ≡ tally v.parts v.given (v.got ++ x ∷ []))
+  pub gets : (end : ℕ) (v : Knowledge X) → 0 < v.parts → Pops IsBalanced end v (λ x w. w ≡ knowing v.parts v.given (v.got ++ x ∷ []))
   gets end v some_part x queued views b at =
-      let w : Tally X = tally v.parts v.given (v.got ++ x ∷ []) in (
+      let w : Knowledge X = knowing v.parts v.given (v.got ++ x ∷ []) in (
         w,
         record {
           whole = (let s = total_set (λ u. u.parts) views end v w at in omega (arith, s, b.whole));
@@ -86,9 +86,9 @@ module _ {X : Type 0} where
       )
 
   -- a view with more than one part may be cut
-  pub forks : (end : ℕ) (v : Tally X) → 1 < v.parts → Forks IsBalanced end v (tally (v.parts - 1) v.given v.got) (tally 1 [] [])
+  pub forks : (end : ℕ) (v : Knowledge X) → 1 < v.parts → Forks IsBalanced end v (knowing (v.parts - 1) v.given v.got) (knowing 1 [] [])
   forks end v some_parts queued views b at =
-      let l : Tally X = tally (v.parts - 1) v.given v.got in let r : Tally X = tally 1 [] [] in let vs : List (Tally X) = set views end l in
+      let l : Knowledge X = knowing (v.parts - 1) v.given v.got in let r : Knowledge X = knowing 1 [] [] in let vs : List (Knowledge X) = set views end l in
       record {
         whole = (let s = total_set (λ u. u.parts) views end v l at in omega (arith, s, b.whole, total_snoc (λ u. u.parts) vs r));
         weighs = λ h.
@@ -96,14 +96,14 @@ module _ {X : Type 0} where
             omega (arith, s, t, b.weighs h, total_snoc (λ u. weigh h u.given) vs r, total_snoc (λ u. weigh h u.got) vs r);
         idle = λ j u e none.
             ⊎_elim (λ (x : get_elem? vs j ≡ some u). idle_set views end l (λ no. absurd (omega arith)) b.idle j u x none)
-            (λ (x : r ≡ u). absurd (let one : 1 ≡ u.parts = ap (λ (y : Tally X). y.parts) x in omega arith)) (at_snoc vs r u j e);
+            (λ (x : r ≡ u). absurd (let one : 1 ≡ u.parts = ap (λ (y : Knowledge X). y.parts) x in omega arith)) (at_snoc vs r u j e);
         few = b.few;
       }
 
   -- two views may be put together
-  pub merges : (end : ℕ) (v : Tally X) (other : ℕ) (u : Tally X) → 0 < v.parts → Merges IsBalanced end v other u (tally (v.parts + u.parts) (v.given ++ u.given) (v.got ++ u.got)) (tally 0 [] [])
+  pub merges : (end : ℕ) (v : Knowledge X) (other : ℕ) (u : Knowledge X) → 0 < v.parts → Merges IsBalanced end v other u (knowing (v.parts + u.parts) (v.given ++ u.given) (v.got ++ u.got)) (knowing 0 [] [])
   merges end v other u some_part queued views b at two at' =
-      let both : Tally X = tally (v.parts + u.parts) (v.given ++ u.given) (v.got ++ u.got) in let spent : Tally X = tally 0 [] [] in let vs : List (Tally X) = set views end both in
+      let both : Knowledge X = knowing (v.parts + u.parts) (v.given ++ u.given) (v.got ++ u.got) in let spent : Knowledge X = knowing 0 [] [] in let vs : List (Knowledge X) = set views end both in
       record {
         whole = (let s = total_set (λ y. y.parts) views end v both at in let t = total_set (λ y. y.parts) vs other u spent at' in omega (arith, s, t, b.whole));
         weighs = λ h.
@@ -115,7 +115,7 @@ module _ {X : Type 0} where
       }
 
   -- the view with every part knows what is left
-  pub learns : (end : ℕ) (v : Tally X) → v.parts ≡ all_parts → Learns IsBalanced end v (λ queued. ((h : X → ℕ) → weigh h v.given ≡ weigh h v.got + weigh h queued) × (length queued ≤ 1024))
+  pub learns : (end : ℕ) (v : Knowledge X) → v.parts ≡ all_parts → Learns IsBalanced end v (λ queued. ((h : X → ℕ) → weigh h v.given ≡ weigh h v.got + weigh h queued) × (length queued ≤ 1024))
   learns end v every queued views b at =
       let whole : total (λ u. u.parts) views ≡ v.parts = b.whole ∙ sym every in (
         (λ h.
@@ -125,13 +125,13 @@ module _ {X : Type 0} where
       )
 
   -- a getting by the view with every part: fewer were got than given
-  pub gets_rest : (end : ℕ) (v : Tally X) → v.parts ≡ all_parts → Pops IsBalanced end v (λ x w. (w ≡ tally v.parts v.given (v.got ++ x ∷ [])) × (count v.got < count v.given))
+  pub gets_rest : (end : ℕ) (v : Knowledge X) → v.parts ≡ all_parts → Pops IsBalanced end v (λ x w. (w ≡ knowing v.parts v.given (v.got ++ x ∷ [])) × (count v.got < count v.given))
   gets_rest end v every x queued views b at =
       let step = gets end v (omega (arith, every)) x queued views b at in
       let left = (learns end v every (x ∷ queued) views b at).0 (λ n. 1) in (step.0, step.1, (step.2, omega (arith, left)))
 
 -- a new lane is balanced
-pub begins : {X : Type 0} → IsBalanced {X = X} [] (tally all_parts [] [] ∷ [])
+pub begins : {X : Type 0} → IsBalanced {X = X} [] (knowing all_parts [] [] ∷ [])
 begins = record {
   whole = omega arith;
   weighs = λ h. refl;
@@ -139,8 +139,8 @@ begins = record {
   few = omega arith;
 }
   where
-    idle_one : {X : Type 0} → IdleIsEmpty {X = X} (tally all_parts [] [] ∷ [])
-    idle_one zero u e none = absurd (let every : all_parts ≡ u.parts = ap (λ (y : Tally _). y.parts) (some-injective (tally all_parts [] []) u e) in omega arith)
+    idle_one : {X : Type 0} → IdleIsEmpty {X = X} (knowing all_parts [] [] ∷ [])
+    idle_one zero u e none = absurd (let every : all_parts ≡ u.parts = ap (λ (y : Knowledge _). y.parts) (some-injective (knowing all_parts [] []) u e) in omega arith)
     idle_one (suc end) u e none = absurd (some-ne-none u (sym e))
 
 -- errands are as many as the list has

@@ -2,7 +2,7 @@
 use Rattle.std.specs.Prelude.{◌≡◌, ℕ, ◌+◌, ◌^◌, ◌≤◌, List, [], ◌∷◌, length, nat_eq, if◌then◌else◌}
 use mathlib.Core.Option.{some}
 use lib.ListN.{get_elem?}
-use Rattle.nob_dispatch_lanes.specs.declared.rule.Tally.{Tally}
+use Rattle.nob_dispatch_lanes.specs.declared.rule.Knowledge.{Knowledge}
 
 -- so many parts there are of the right to know the whole
 abbrev pub all_parts : ℕ
@@ -10,8 +10,8 @@ all_parts = 2 ^ 128
 
 module _ {X : Type 0} where
   -- what an end knows: how many parts it has of the right to know the whole, the errands that it gave, and those that it got
-  abbrev pub tally : ℕ → List X → List X → Tally X
-  tally parts given got = record { parts = parts; given = given; got = got }
+  abbrev pub knowing : ℕ → List X → List X → Knowledge X
+  knowing parts given got = record { parts = parts; given = given; got = got }
 
   -- the weights of errands, added up: lists that weigh the same, however errands are weighed, have each as often
   abbrev pub weigh : (X → ℕ) → List X → ℕ
@@ -23,16 +23,16 @@ module _ {X : Type 0} where
   count errands = weigh (λ errand. 1) errands
 
   -- what each end has of something, added up
-  abbrev pub total : (Tally X → ℕ) → List (Tally X) → ℕ
+  abbrev pub total : (Knowledge X → ℕ) → List (Knowledge X) → ℕ
   total amount [] = 0
   total amount (view ∷ views) = amount view + total amount views
 
   -- an end without a part has given and got nothing
-  abbrev pub IdleIsEmpty : List (Tally X) → Type 0
-  IdleIsEmpty views = (end : ℕ) (view : Tally X) → get_elem? views end ≡ some view → view.parts ≡ 0 → (view.given ≡ []) × (view.got ≡ [])
+  abbrev pub IdleIsEmpty : List (Knowledge X) → Type 0
+  IdleIsEmpty views = (end : ℕ) (view : Knowledge X) → get_elem? views end ≡ some view → view.parts ≡ 0 → (view.given ≡ []) × (view.got ≡ [])
 
   -- these errands are queued, at most 1,024; however errands are weighed, what was given weighs what was got and what is queued
-  pub record IsBalanced (queued : List X) (views : List (Tally X)) : Type 0 where
+  pub record IsBalanced (queued : List X) (views : List (Knowledge X)) : Type 0 where
     pub whole : total (λ view. view.parts) views ≡ all_parts
     pub weighs : (weight : X → ℕ) → total (λ view. weigh weight view.given) views ≡ total (λ view. weigh weight view.got) views + weigh weight queued
     pub idle : IdleIsEmpty views

@@ -6,15 +6,15 @@ ghost use Rattle.crossbeam_channel.specs.Ends.{sends_on, receives_on, ruled_capa
 ghost use Rattle.nob_dispatch_lanes.specs.Ends.{parts_of, given_by, got_by, IsGiver, IsGetter};
 
 use crate::fault::Gone;
-use crate::rule::{Fair, Get, Give, Tally};
+use crate::rule::{Fair, Get, Give, Knowledge};
 use crossbeam_channel::{Pass, RuledReceiver, RuledSender};
 use std::sync::Wait;
 
 /// An end of a lane that gives errands. It knows whether it was answered H1.
 #[derive(Drop)]
 pub struct LanePut<T: Drop> {
-    pub(crate) sender: RuledSender<T, Tally<T>, Fair>,
-    pub(crate) pass: Pass<T, Tally<T>>,
+    pub(crate) sender: RuledSender<T, Knowledge<T>, Fair>,
+    pub(crate) pass: Pass<T, Knowledge<T>>,
     pub(crate) has_heard_gone: bool,
     pub ghost seated: { IsSeatAt (sends_on sender) pass },
     pub ghost gives: { IsGiver pass },
@@ -24,8 +24,8 @@ pub struct LanePut<T: Drop> {
 /// An end of a lane that gets errands.
 #[derive(Drop)]
 pub struct LaneTake<T: Drop> {
-    pub(crate) receiver: RuledReceiver<T, Tally<T>, Fair>,
-    pub(crate) pass: Pass<T, Tally<T>>,
+    pub(crate) receiver: RuledReceiver<T, Knowledge<T>, Fair>,
+    pub(crate) pass: Pass<T, Knowledge<T>>,
     pub ghost seated: { IsSeatAt (receives_on receiver) pass },
     pub ghost gets: { IsGetter pass },
 }

@@ -10,7 +10,7 @@ ghost use Rattle.nob_dispatch_lanes.specs.Lanes.{AreAllEnds, IsOneLane, all_give
 
 use crate::MOST_ERRANDS;
 use crate::ends::{LanePut, LaneTake};
-use crate::rule::{Cut, Fair, Rest, Tally};
+use crate::rule::{Cut, Fair, Knowledge, Rest};
 use crossbeam_channel::{Pass, RuledReceiver, RuledSender};
 use std::alloc::Global;
 use std::sync::Wait;
@@ -50,10 +50,10 @@ pub fn gather<T: Drop, R: Wait>(
 
 // What two passes of a lane know, in one.
 fn join<T: Drop>(
-    sender: &RuledSender<T, Tally<T>, Fair>,
-    mut pass: Pass<T, Tally<T>>,
-    other: Pass<T, Tally<T>>,
-) -> Pass<T, Tally<T>>
+    sender: &RuledSender<T, Knowledge<T>, Fair>,
+    mut pass: Pass<T, Knowledge<T>>,
+    other: Pass<T, Knowledge<T>>,
+) -> Pass<T, Knowledge<T>>
     requires lane { IsSeatAt (sends_on sender.now) pass × IsSeatAt (sends_on sender.now) other }
     requires some { 0 < parts_of pass }
     ensures lane { IsSeatAt (sends_on sender.now) result }
@@ -67,10 +67,10 @@ fn join<T: Drop>(
 
 // What a pass and ends that give know, in one.
 fn join_givers<T: Drop>(
-    sender: &RuledSender<T, Tally<T>, Fair>,
-    pass: Pass<T, Tally<T>>,
+    sender: &RuledSender<T, Knowledge<T>, Fair>,
+    pass: Pass<T, Knowledge<T>>,
     mut ends: Vec<LanePut<T>>,
-) -> Pass<T, Tally<T>>
+) -> Pass<T, Knowledge<T>>
     requires lane { IsSeatAt (sends_on sender.now) pass }
     requires lanes { AllByRecursion (λ end. sends_on end.sender ≡ sends_on sender.now) ends.items }
     requires some { 0 < parts_of pass }
@@ -93,10 +93,10 @@ fn join_givers<T: Drop>(
 
 // What a pass and ends that get know, in one.
 fn join_getters<T: Drop>(
-    sender: &RuledSender<T, Tally<T>, Fair>,
-    pass: Pass<T, Tally<T>>,
+    sender: &RuledSender<T, Knowledge<T>, Fair>,
+    pass: Pass<T, Knowledge<T>>,
     mut ends: Vec<LaneTake<T>>,
-) -> Pass<T, Tally<T>>
+) -> Pass<T, Knowledge<T>>
     requires lane { IsSeatAt (sends_on sender.now) pass }
     requires lanes { AllByRecursion (λ end. sends_on sender.now ≡ receives_on end.receiver)
         ends.items }
@@ -120,8 +120,8 @@ fn join_getters<T: Drop>(
 // Takes all that is left into a vector that has room for it. The pass has all parts.
 fn take_rest<T: Drop, R: Wait>(
     rt: &R,
-    receiver: &RuledReceiver<T, Tally<T>, Fair>,
-    mut pass: Pass<T, Tally<T>>,
+    receiver: &RuledReceiver<T, Knowledge<T>, Fair>,
+    mut pass: Pass<T, Knowledge<T>>,
     mut rest: Vec<T>,
 ) -> Vec<T>
     requires lane { IsSeatAt (receives_on receiver.now) pass }

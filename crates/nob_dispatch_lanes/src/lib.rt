@@ -12,7 +12,7 @@ pub use ends::{LanePut, LaneTake};
 pub use fault::{Gone, LaneError};
 pub use gathering::gather;
 pub use making::lane;
-pub use rule::{Fair, Tally};
+pub use rule::{Fair, Knowledge};
 
 /// So many errands a lane holds at most.
 pub const MOST_ERRANDS: usize = 1024;

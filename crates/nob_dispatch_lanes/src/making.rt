@@ -10,7 +10,7 @@ ghost use Rattle.nob_dispatch_lanes.specs.declared.fault.LaneError.TheVariants a
 use crate::MOST_ERRANDS;
 use crate::ends::{LanePut, LaneTake};
 use crate::fault::LaneError;
-use crate::rule::{Cut, Fair, Tally};
+use crate::rule::{Cut, Fair, Knowledge};
 use crossbeam_channel::{RuledReceiver, bounded_with};
 use std::alloc::{AllocError, Global};
 
@@ -36,7 +36,7 @@ pub fn lane<T: Drop>(
     if capacity == 0 || capacity > MOST_ERRANDS {
         return Err(LaneError::Capacity);
     }
-    let (sender, receiver, pass) = bounded_with::<T, Tally<T>, Fair, Global>(alloc, capacity)?;
+    let (sender, receiver, pass) = bounded_with::<T, Knowledge<T>, Fair, Global>(alloc, capacity)?;
     let mut first = LanePut {
         sender,
         pass,
@@ -51,7 +51,7 @@ pub fn lane<T: Drop>(
 fn getters<T: Drop>(
     alloc: Global,
     first: &mut LanePut<T>,
-    receiver: RuledReceiver<T, Tally<T>, Fair>,
+    receiver: RuledReceiver<T, Knowledge<T>, Fair>,
     takes: usize,
 ) -> Result<Vec<LaneTake<T>>, AllocError>
     requires lane { receives_on receiver ≡ sends_on first.old.sender }
@@ -78,7 +78,7 @@ fn getters<T: Drop>(
 // One more end that gets from the lane of an end that gives, which gives up a part for it.
 fn getter<T: Drop>(
     first: &mut LanePut<T>,
-    receiver: &RuledReceiver<T, Tally<T>, Fair>,
+    receiver: &RuledReceiver<T, Knowledge<T>, Fair>,
 ) -> Result<LaneTake<T>, AllocError>
     requires lane { receives_on receiver.now ≡ sends_on first.old.sender }
     requires parts { 1 < parts_of first.old.pass }

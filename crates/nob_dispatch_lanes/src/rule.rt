@@ -4,7 +4,7 @@ use crossbeam_channel::protocol::{Join, Lesson, Outcome, Protocol, Split};
 use std::collections::LinkedList;
 
 /// What an end knows. No value of it is made.
-pub struct Tally<T> {
+pub struct Knowledge<T> {
     /// How many parts it has of the right to know the whole.
     pub parts: u64,
     /// The errands that it gave.
@@ -16,47 +16,47 @@ pub struct Tally<T> {
 /// The rule: each errand that was given was got or is queued, as often.
 pub struct Fair;
 
-impl<T> Protocol<T, Tally<T>> for Fair {
+impl<T> Protocol<T, Knowledge<T>> for Fair {
     ghost use Rattle.std.specs.Prelude.{[]};
-    ghost use Rattle.nob_dispatch_lanes.specs.Balance.{IsBalanced, tally, all_parts};
+    ghost use Rattle.nob_dispatch_lanes.specs.Balance.{IsBalanced, knowing, all_parts};
 
     ghost holds = { λ queued views. IsBalanced queued views };
 
-    ghost first = { tally all_parts [] [] };
+    ghost first = { knowing all_parts [] [] };
 }
 
 /// One part for a new end.
 pub struct Cut;
 
-impl<T> Split<Tally<T>> for Cut {
+impl<T> Split<Knowledge<T>> for Cut {
     ghost use Rattle.std.specs.Prelude.{◌-◌, []};
-    ghost use Rattle.nob_dispatch_lanes.specs.Balance.{tally};
+    ghost use Rattle.nob_dispatch_lanes.specs.Balance.{knowing};
 
-    ghost left = { λ v. tally (v.parts - 1) v.given v.got };
+    ghost left = { λ v. knowing (v.parts - 1) v.given v.got };
 
-    ghost right = { λ v. tally 1 [] [] };
+    ghost right = { λ v. knowing 1 [] [] };
 }
 
-impl<T> Join<Tally<T>> for Cut {
+impl<T> Join<Knowledge<T>> for Cut {
     ghost use Rattle.std.specs.Prelude.{◌+◌, ◌++◌, []};
-    ghost use Rattle.nob_dispatch_lanes.specs.Balance.{tally};
+    ghost use Rattle.nob_dispatch_lanes.specs.Balance.{knowing};
 
-    ghost both = { λ v w. tally (v.parts + w.parts) (v.given ++ w.given) (v.got ++ w.got) };
+    ghost both = { λ v w. knowing (v.parts + w.parts) (v.given ++ w.given) (v.got ++ w.got) };
 
-    ghost spent = { tally 0 [] [] };
+    ghost spent = { knowing 0 [] [] };
 }
 
 /// An errand is given.
 pub struct Give;
 
-impl<T> Outcome<T, Tally<T>> for Give {
+impl<T> Outcome<T, Knowledge<T>> for Give {
     ghost use Rattle.std.specs.Prelude.{◌≡◌, ◌++◌, ◌∷◌, []};
-    ghost use Rattle.nob_dispatch_lanes.specs.Balance.{tally};
+    ghost use Rattle.nob_dispatch_lanes.specs.Balance.{knowing};
 
-    ghost then = { λ v errand w. w ≡ tally v.parts (v.given ++ errand ∷ []) v.got };
+    ghost then = { λ v errand w. w ≡ knowing v.parts (v.given ++ errand ∷ []) v.got };
 }
 
-impl<T> Lesson<T, Tally<T>> for Give {
+impl<T> Lesson<T, Knowledge<T>> for Give {
     ghost use Rattle.std.specs.Prelude.{⊤};
 
     ghost fact = { λ v queued. ⊤ };
@@ -65,14 +65,14 @@ impl<T> Lesson<T, Tally<T>> for Give {
 /// An errand is got.
 pub struct Get;
 
-impl<T> Outcome<T, Tally<T>> for Get {
+impl<T> Outcome<T, Knowledge<T>> for Get {
     ghost use Rattle.std.specs.Prelude.{◌≡◌, ◌++◌, ◌∷◌, []};
-    ghost use Rattle.nob_dispatch_lanes.specs.Balance.{tally};
+    ghost use Rattle.nob_dispatch_lanes.specs.Balance.{knowing};
 
-    ghost then = { λ v errand w. w ≡ tally v.parts v.given (v.got ++ errand ∷ []) };
+    ghost then = { λ v errand w. w ≡ knowing v.parts v.given (v.got ++ errand ∷ []) };
 }
 
-impl<T> Lesson<T, Tally<T>> for Get {
+impl<T> Lesson<T, Knowledge<T>> for Get {
     ghost use Rattle.std.specs.Prelude.{⊤};
 
     ghost fact = { λ v queued. ⊤ };
@@ -81,15 +81,15 @@ impl<T> Lesson<T, Tally<T>> for Get {
 /// An errand is got by the end with all parts, which knows what is left.
 pub struct Rest;
 
-impl<T> Outcome<T, Tally<T>> for Rest {
+impl<T> Outcome<T, Knowledge<T>> for Rest {
     ghost use Rattle.std.specs.Prelude.{◌≡◌, ◌<◌, ◌++◌, ◌∷◌, []};
-    ghost use Rattle.nob_dispatch_lanes.specs.Balance.{tally, count};
+    ghost use Rattle.nob_dispatch_lanes.specs.Balance.{knowing, count};
 
-    ghost then = { λ v errand w. (w ≡ tally v.parts v.given (v.got ++ errand ∷ []))
+    ghost then = { λ v errand w. (w ≡ knowing v.parts v.given (v.got ++ errand ∷ []))
         × (count v.got < count v.given) };
 }
 
-impl<T> Lesson<T, Tally<T>> for Rest {
+impl<T> Lesson<T, Knowledge<T>> for Rest {
     ghost use Rattle.std.specs.Prelude.{◌≡◌, ◌+◌, ◌≤◌, ℕ, length};
     ghost use Rattle.nob_dispatch_lanes.specs.Balance.{weigh};
 

@@ -1,5 +1,5 @@
 use Rattle.std.proofs.Common.{arith, refl, ap}
-use Rattle.nob_dispatch_lanes.specs.declared.rule.Tally.{Tally}
+use Rattle.nob_dispatch_lanes.specs.declared.rule.Knowledge.{Knowledge}
 use Rattle.nob_dispatch_lanes.specs.Balance.{count}
 use Rattle.nob_dispatch_lanes.proofs.Steps.{learns, count_is_length}
 use Rattle.nob_dispatch_lanes.proofs.Whole.{parted, on_one_lane, of_parted}
@@ -25,4 +25,4 @@ learn_as-requires-clause-rule g c =
 pub take_rest-requires-clause-room : goal.take_rest-requires-clause-room
 take_rest-requires-clause-room g c =
     let left = c.learn_as.ensures.rule in let same = c.learn_as.ensures.channel.2 in let rest = left.0 in
-    (c.in-Ok.ensures.items, omega (arith, ap (λ (v : Tally _). count v.given) same, ap (λ (v : Tally _). count v.got) same, left.1.0 (λ n. 1), left.1.1, count_is_length rest, c.in-Ok.ensures.capacity))
+    (c.in-Ok.ensures.items, omega (arith, ap (λ (v : Knowledge _). count v.given) same, ap (λ (v : Knowledge _). count v.got) same, left.1.0 (λ n. 1), left.1.1, count_is_length rest, c.in-Ok.ensures.capacity))
