@@ -8,10 +8,10 @@ ghost use Rattle.nob_model.specs.Opening as words;
 
 use crate::right::Answered;
 use nob_ids::{SpaceId, WireRep};
+use nob_model_history::History;
 use nob_model_history::ends::calls_at;
 use nob_model_history::holds::{gains, is_held, lent_in};
 use nob_model_history::transit::pinned;
-use nob_model_history::History;
 use nob_model_session::end::{LAST_SESSION, seen};
 use nob_model_types::{Answer, Here, Message, Refusal, sessions};
 use std::alloc::{AllocError, Global};
@@ -60,6 +60,13 @@ fn holds_any_of(
     is_any_held(alloc, space, owner, history, reps.as_slice())
 }
 
+// Whether one of these references is counted and owned by a space.
+fn is_any_owned_by(owner: SpaceId, reps: &[WireRep]) -> bool
+    ensures { result ≡ list_any (words.is_owned_by owner) reps.now }
+{
+    reps.iter().any(|rep| is_owned_by(owner, *rep))
+}
+
 // Whether a message carries a counted reference that a space owns.
 fn carries_any_of(owner: SpaceId, message: &Message) -> bool
     ensures { result ≡ words.carries_any_of owner message.now }
@@ -95,10 +102,10 @@ pub fn still_held(
         return Ok(true);
     }
     let reps = pinned(alloc, history)?;
-    if reps.iter().any(|rep| is_owned_by(peer, *rep)) {
-        return Ok(true);
-    }
-    Ok(is_carried_in(peer, history.work.waiting.as_slice()))
+    Ok(
+        is_any_owned_by(peer, reps.as_slice())
+            || is_carried_in(peer, history.work.waiting.as_slice()),
+    )
 }
 
 /// The number of the next session with a peer.

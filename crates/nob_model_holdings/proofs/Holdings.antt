@@ -2,7 +2,7 @@
 use Rattle.std.proofs.Common.{◌≡◌, ℕ, ◌+◌, ◌-◌, ◌≤◌, ◌||◌, not, Bool, true, false, cond, List, [], ◌∷◌, ◌++◌, length, map, filter, find, Option, Some, None, refl, sym, ap, subst, ◌∙◌, arith, ◌⊎◌, inl, inr}
 use Rattle.std.specs.Prelude.{◌==◌, nat_le}
 use Rattle.std.specs.List.{AllByRecursion}
-use Rattle.std.proofs.lemmas.Bool.{eq-eqb, ne_eqb, and_parts, and_from, or_left, or_parts, not-true, not_from_false, leb-true, leb-false}
+use Rattle.std.proofs.lemmas.Bool.{eq-eqb, ne_eqb, and_parts, or_left, not_from_false, leb-true, leb-false}
 use Rattle.std.proofs.lemmas.List.{length-append}
 use Rattle.std.proofs.lemmas.List.Elements.{filter-append}
 use Rattle.nob_ids.specs.Names.{is_same, is_counted}
@@ -22,7 +22,7 @@ use Rattle.nob_model_types.specs.declared.message.Loan.{Loan}
 use Rattle.nob_model_types.specs.declared.message.Loan.TheVariants as loans
 use Rattle.nob_model_types.specs.declared.message.RefCopy.{RefCopy}
 use Rattle.nob_model_types.specs.declared.message.Message.{Message}
-use Rattle.nob_model_types.specs.Sessions.{is_peer, closed, item_at}
+use Rattle.nob_model_types.specs.Sessions.{is_peer, item_at}
 use Rattle.nob_model_types.specs.Objects.{is_live, is_exported}
 use Rattle.nob_model_types.specs.Turns.{turns, is_own, is_usable, is_granted, is_lost}
 use Rattle.nob_model_types.specs.Messages.{new_message, new_copy, loan_after, copy_after, message_after, is_of, is_lost_message, replies_to}
@@ -33,7 +33,7 @@ use Rattle.nob_model_work.specs.Gifts.{dirty_for, dirties_for, answer_to, gifts_
 use Rattle.nob_model_history.specs.declared.transit.SentItem.{SentItem}
 use Rattle.nob_model_history.specs.Histories.{history_of}
 use Rattle.nob_model_history.specs.Holds.{times, gains, releases, hand, loans_of, target_lent, copies_lent, lent_in, holds, is_held}
-use Rattle.nob_model_history.specs.Transit.{next_sent, sent, is_settled, is_pinned, bundles, pinned, pins}
+use Rattle.nob_model_history.specs.Transit.{next_sent, sent, is_pinned, bundles, pinned, pins}
 use Rattle.nob_model_history.specs.Premises.{TookTurns}
 use Rattle.nob_model_history.proofs.Sending.{new_items, sent_more}
 use Rattle.nob_model_history.proofs.Turning.{same_ref}

@@ -1,5 +1,5 @@
 -- Counts of references, and how often one stands among others.
-use Rattle.std.proofs.Common.{◌≡◌, ℕ, ◌<◌, ◌≤◌, ◌+◌, Bool, true, false, ◌||◌, ◌-◌, ◌^◌, not, nat_lt, nat_le, true≢false, IsSome, IfSome, cond, List, [], ◌∷◌, length, filter, Option, Some, None, get_or, drop, if◌then◌else◌, refl, sym, ap, subst, ◌∙◌, arith}
+use Rattle.std.proofs.Common.{◌≡◌, ℕ, ◌<◌, ◌≤◌, ◌+◌, Bool, true, false, ◌||◌, ◌-◌, ◌^◌, not, nat_lt, nat_le, true≢false, IsSome, cond, List, [], ◌∷◌, length, filter, Option, Some, None, get_or, drop, if◌then◌else◌, refl, sym, ap, ◌∙◌, arith}
 use Rattle.std.proofs.lemmas.Bool.{and_parts}
 use Rattle.std.proofs.lemmas.Bool.Decides.{Decides-eqb, Decides-and, nat_tests}
 use Rattle.std.proofs.lemmas.List.{drop_more}
@@ -12,7 +12,7 @@ use Rattle.nob_ids.specs.declared.wire_rep.WireRep.{WireRep}
 use Rattle.nob_ids.specs.Names.{is_same}
 use Rattle.nob_pins.specs.Evidence.{Pin, reps_of}
 use Rattle.nob_pins.specs.Bundles.{Pinned, Table, Adds, times, is_full, has_room}
-use Rattle.nob_pins.specs.Peers.{count_in, is_many, AreCounted, AreSome}
+use Rattle.nob_pins.specs.Peers.{count_in, is_many, AreCounted}
 
 same_is : (rep other : WireRep) → is_same rep other ≡ true → rep ≡ other
 same_is rep other same =
@@ -25,23 +25,6 @@ Writes old new rep w = (other : WireRep) → lookup (is_same other) new ≡ cond
 
 pub written : (old new : List (WireRep × ℕ)) (rep : WireRep) (w : Option ℕ) → Writes old new rep w → (other : WireRep) → count_in new other ≡ (if is_same rep other then unwrap_or w 0 else count_in old other)
 written old new rep w writes other = rw (writes other) (elim (is_same rep other) as (λ b. unwrap_or (cond b w (lookup (is_same other) old)) 0 ≡ (if b then unwrap_or w 0 else count_in old other)) [ true ↦ refl | false ↦ refl ])
-
--- where no count was 0, and the one that is written isn't, none is
-pub some_written : (old new : List (WireRep × ℕ)) (rep : WireRep) (w : Option ℕ) → AreSome old → Writes old new rep w → IfSome w (λ count. 0 < count) → AreSome new
-some_written old new rep w all writes is other =
-    subst (λ (o : Option ℕ). IfSome o (λ count. 0 < count)) (sym (writes other))
-    (elim (is_same rep other) as (λ b. IfSome (cond b w (lookup (is_same other) old)) (λ count. 0 < count)) [ true ↦ is | false ↦ all other ])
-
--- a row has a count
-pub has_count : (rows : List (WireRep × ℕ)) → AreSome rows → (rep : WireRep) → IsSome (lookup (is_same rep) rows) → 0 < count_in rows rep
-has_count rows all rep has = elim (lookup (is_same rep) rows) as (λ o. IfSome o (λ count. 0 < count) → IsSome o → 0 < unwrap_or o 0) [
-  | None ↦ λ a h. absurd (true≢false (sym h))
-  | Some n ↦ λ a h. a
-] (all rep) has
-
--- where there is no row the count is 0
-pub no_row : (rows : List (WireRep × ℕ)) (rep : WireRep) → lookup (is_same rep) rows ≡ None → count_in rows rep ≡ 0
-no_row rows rep none = ap (λ (o : Option ℕ). unwrap_or o 0) none
 
 -- one more
 pub one_more : (old new : List (WireRep × ℕ)) (rep : WireRep) (n : ℕ) → Writes old new rep (Some n) → n ≡ count_in old rep + 1 → (other : WireRep) → count_in new other ≡ (if is_same rep other then 1 else 0) + count_in old other

@@ -3,7 +3,7 @@ use Rattle.std.proofs.Common.{◌≡◌, ℕ, Bool, true, false, not, ◌&&◌, 
 use Rattle.std.proofs.lemmas.Bool.Decides.{Decides-eqb}
 use Rattle.std.specs.List.{list_any}
 use Rattle.nob_model_types.specs.declared.deed.Deed.{Deed}
-use Rattle.nob_model_types.specs.declared.deed.Deed.TheVariants.{Act}
+use Rattle.nob_model_types.specs.declared.deed.Deed.TheVariants.{Act, Open}
 use Rattle.nob_model_types.specs.Sessions.{item_at, closed}
 use Rattle.nob_model_history.specs.Listing.{is_entered, is_entered_after, is_listed, is_of_listed, is_any_listed}
 
@@ -23,6 +23,7 @@ module _ (s index : ℕ) (D : List Deed) where
     | true ↦ λ same _. let here : is_listed s index p D ≡ true = subst (λ q. is_listed s index q D ≡ true) (sym ((Decides-eqb p c).0 same)) listed in rw here refl
     | false ↦ λ _ before. rw (somebody_of c listed E before) (elim (is_listed s index p D) as (λ b. (b || true) ≡ true) [ true ↦ refl | false ↦ refl ])
   ] refl entered
+  somebody_of c listed (Open q k ∷ E) entered = somebody_of c listed E (elim (q == c) as (λ b. (if b then false else is_entered s index c E) ≡ true → is_entered s index c E ≡ true) [ true ↦ λ e. absurd (cc) | false ↦ λ e. e ] entered)
   somebody_of c listed (_ ∷ E) entered = somebody_of c listed E entered
 
   both : (b : Bool) → (not b && false) ≡ true → ⊥

@@ -1,7 +1,7 @@
 -- The opening of a session anew: what the looks tell, and the state that it leaves. The session had closed and nothing of
 -- its peer's objects was left, so that what the words say anew is what the state has.
-use Rattle.std.proofs.Common.{◌≡◌, ℕ, ◌+◌, ◌-◌, ◌≤◌, ◌<◌, max, Bool, true, false, cond, not, ◌&&◌, ◌||◌, ◌==◌, List, [], ◌∷◌, ◌++◌, length, map, filter, flat_map, filter_map, get_or, None, Ok, Err, refl, sym, ap, subst, ◌∙◌, arith, if◌then◌else◌}
-use Rattle.std.specs.Prelude.{nat_lt}
+use Rattle.std.proofs.Common.{◌≡◌, ℕ, ◌+◌, ◌-◌, ◌≤◌, ◌<◌, max, Bool, true, false, cond, not, ◌&&◌, ◌||◌, ◌==◌, List, [], ◌∷◌, ◌++◌, length, map, filter, flat_map, filter_map, get_or, slice_get, Some, None, Ok, Err, refl, sym, ap, subst, ◌∙◌, arith, if◌then◌else◌}
+use Rattle.std.specs.Prelude.{nat_lt, nat_le}
 use lib.ListN.{set}
 use Rattle.std.specs.List.{AllByRecursion, list_any, sum_by}
 use Rattle.std.proofs.lemmas.Bool.Decides.{nat_tests, Decides-eqb}
@@ -11,6 +11,7 @@ use Rattle.nob_ids.specs.declared.limits.Limits.{Limits}
 use Rattle.nob_ids.specs.declared.wire_rep.WireRep.{WireRep}
 use Rattle.nob_item.specs.Kinds.{counted_in, refs_carried}
 use Rattle.nob_pins.specs.Bundles.{Pinned, CountsOf, count_of}
+use Rattle.nob_session.specs.Calls.{reopening_of}
 use Rattle.nob_session.specs.Stands as session
 use Rattle.nob_session.specs.Stands.{End, Roomy}
 use Rattle.nob_table_rows.proofs.Same.{same_is, same_laws}
@@ -250,6 +251,29 @@ module _ {s n : ℕ} {limits : Limits} {st : State} {D : List Deed} (stands : St
             let same : k ≡ next_number p (history_of s n D) = next ∙ next_there in
             open_of_free s n p (history_of s n D) peer shut unheld (within_last (next_number p (history_of s n D)) (subst (λ j. j ≤ last_session) same low))
             ∙ ap (λ j. Ok (answers.Opened j)) (sym same)
+
+-- the end with a peer has closed
+closed_end : (sessions : List Roomy) (p : ℕ) (end : Roomy) → 1 ≤ p → slice_get sessions (p - 1) ≡ Some end → has_closed sessions p ≡ true → session.is_open_end end.end ≡ false
+closed_end sessions p end low there cut =
+    let some : p == 0 ≡ false = grind (arith, nat_tests, low) in
+    let test : not (session.is_open_end end.end) ≡ true = sym (rw (some, there) refl) ∙ cut in
+    elim (session.is_open_end end.end) as (λ b. not b ≡ true → b ≡ false) [ true ↦ λ e. absurd (cc) | false ↦ λ _. refl ] test
+
+-- a closed end opens under its next number
+next_opens : (e : End) (k : ℕ) → session.is_open_end e ≡ false → k ≡ next_of e → k ≤ last_session → reopening_of k e ≡ Ok tt
+next_opens e k shut next low =
+    let above : nat_lt e.number k ≡ true = grind (arith, nat_tests, next) in
+    let seen_below : nat_le e.seen k ≡ true = grind (arith, nat_tests, next) in
+    let last : nat_le k last_session ≡ true = grind (arith, nat_tests, low) in
+    rw (shut, above, seen_below, last) refl
+
+-- so the end with a peer does, wherever its next number was read
+pub may_open : {s n : ℕ} {limits : Limits} {st : State} {D : List Deed} → Stands s n limits st D → (p : ℕ) → is_peer s n p ≡ true → has_closed st.sessions p ≡ true
+    → (one end : Roomy) → one ≡ get_or st.sessions (p - 1) one → end ≡ get_or st.sessions (p - 1) end → (k : ℕ) → k ≡ next_of one.end → k ≤ last_session → reopening_of k end.end ≡ Ok tt
+may_open {s} {n} {limits} {st} {D} stands p peer cut one end one_is end_is k next low =
+    let there = end_there s n limits st.sessions (history_of s n D) p end stands.ends peer end_is in
+    let first = end_there s n limits st.sessions (history_of s n D) p one stands.ends peer one_is in
+    next_opens end.end k (closed_end st.sessions p end there.0 there.1 cut) (next ∙ next_is s n p limits D one.end first.2 ∙ sym (next_is s n p limits D end.end there.2)) low
 
 -- ---- one deed more
 

@@ -61,8 +61,8 @@ impl Parts {
 
 // The number of the next session of an end, if one is left.
 fn next_number(session: &Session) -> Option<u32>
-    ensures { MatchOption result (λ number. (number ≡ next_of session.now.end)
-        × (number ≤ last_session)) (last_session < next_of session.now.end) }
+    ensures { MatchOption result (last_session < next_of session.now.end)
+        (λ number. (number ≡ next_of session.now.end) × (number ≤ last_session)) }
 {
     let above = session.number().checked_add(1)?;
     Some(above.max(session.seen()))
