@@ -143,13 +143,13 @@ module _ {s n : ℕ} {limits : Limits} {st : State} {D : List Deed} (stands : St
   -- where it knows nothing of the peer's nothing is held
   pub unknown_unheld : KnowsNoneOf st.table p → holds_any_of s p (history_of s n D) ≡ false
   unknown_unheld none = none_passes (λ w. is_owned_by p w && is_held s w (history_of s n D)) (gains D ++ lent_in s (work s n D)) (λ rep some.
-    elim (rep.owner == p) as (λ b. rep.owner == p ≡ b → ((b && is_counted rep) && is_held s rep (history_of s n D)) ≡ false) [
-      | true ↦ λ its. elim (is_counted rep) as (λ b. is_counted rep ≡ b → (b && is_held s rep (history_of s n D)) ≡ false) [
-        | true ↦ λ counted. sym (held_there stands rep counted) ∙ ap (λ (it : Standing). counts.is_held it.counts) (none rep (is_of_there rep its))
+      elim (rep.owner == p) as (λ b. rep.owner == p ≡ b → ((b && is_counted rep) && is_held s rep (history_of s n D)) ≡ false) [
+        | true ↦ λ its. elim (is_counted rep) as (λ b. is_counted rep ≡ b → (b && is_held s rep (history_of s n D)) ≡ false) [
+          | true ↦ λ counted. sym (held_there stands rep counted) ∙ ap (λ (it : Standing). counts.is_held it.counts) (none rep (is_of_there rep its))
+          | false ↦ λ _. refl
+        ] refl
         | false ↦ λ _. refl
-      ] refl
-      | false ↦ λ _. refl
-    ] refl)
+      ] refl)
 
   -- a reference of the peer's in transit is pinned
   pub counted_pinned : CountsOf st.pins.bundles p → list_any (is_owned_by p) (transit.pinned (history_of s n D)) ≡ true
@@ -165,10 +165,10 @@ module _ {s n : ℕ} {limits : Limits} {st : State} {D : List Deed} (stands : St
   -- and without one nothing of the peer's is
   pub uncounted_unpinned : CountsNoneOf st.pins.bundles p → list_any (is_owned_by p) (transit.pinned (history_of s n D)) ≡ false
   uncounted_unpinned none = none_passes (is_owned_by p) (transit.pinned (history_of s n D)) (λ rep some.
-    elim (rep.owner == p) as (λ b. rep.owner == p ≡ b → (b && is_counted rep) ≡ false) [
-      | true ↦ λ its. absurd (let free = sym (pins_there stands rep) ∙ none rep ((Decides-eqb rep.owner p).0 its) in omega (arith, free, some))
-      | false ↦ λ _. refl
-    ] refl)
+      elim (rep.owner == p) as (λ b. rep.owner == p ≡ b → (b && is_counted rep) ≡ false) [
+        | true ↦ λ its. absurd (let free = sym (pins_there stands rep) ∙ none rep ((Decides-eqb rep.owner p).0 its) in omega (arith, free, some))
+        | false ↦ λ _. refl
+      ] refl)
 
   -- what the messages that wait carry
   pub carried_is : list_any (carries_any_of p) st.work.waiting ≡ list_any (opening.carries_any_of p) (work s n D).waiting
@@ -351,7 +351,7 @@ module _ {s n : ℕ} {limits : Limits} {st : State} {D : List Deed} (stands : St
       → Stands s n limits (with_sessions (set st.sessions (p - 1) new) st) (Open p k ∷ D)
   opened_stands old new is after =
       let there = end_there s n limits st.sessions (history_of s n D) p old stands.ends (open_peer s n limits p k D its) is in
-        record {
+      record {
         ends = ends_changed s n limits st.sessions (history_of s n D) (history_of s n (Open p k ∷ D)) p new stands.ends there.0
             (subst (λ calls. session.Stands s p limits new.end calls) (sym (calls_opened s n p k D)) after)
             (λ q other. sym (calls_other s n q p k D (nat_eq_equiv.symm p q ∙ other)));
