@@ -12,12 +12,13 @@ lend_line-lent-requires-clause-lined c = lined_all c.self.invariant.0 c.args.rep
 
 pub invariant_of-self : goal.invariant_of-self
 invariant_of-self c =
-    let lined : IsLined c.self.inside.lines c.self.inside.slots.rows c.args.rep.now = lined_all c.self.invariant.0 c.args.rep.now (λ due. sym (c.self.invariant.0.awaited c.args.rep.now) ∙ (rw (← c.self.view_is) at c.requires.open) due) in
-    (ended c.self.invariant.0 (is_same c.args.rep.now) c.clear.new.self c.clear.ensures.counts c.clear.ensures.links c.clear.ensures.awaited (omega (arith, c.clear.ensures.room))
-    (λ s e. lent_entry c.args.rep.now e) c.lend_line-lent.new.slots.rows c.lend_line-lent.new.slots.marked c.lend_line-lent.new.slots.room c.lend_line-lent.ensures.rows c.lend_line-lent.ensures.marked c.lend_line-lent.ensures.room
-    (lent_open c.self.invariant.0 c.args.rep.now lined) (λ s e r off. due_other c.args.rep.now r e.message off) (λ s e. refl),
-    granted_carried c.self.inside.copies c.args.rep.now (items_of c.self.inside.slots.rows) (items_of c.lend_line-lent.new.slots.rows) c.self.invariant.1 (ap items_of c.lend_line-lent.ensures.rows ∙ lent_items c.args.rep.now c.self.inside.slots.rows),
-    c.self.invariant.2)
+    let lined : IsLined c.self.inside.lines c.self.inside.slots.rows c.args.rep.now = lined_all c.self.invariant.0 c.args.rep.now (λ due. sym (c.self.invariant.0.awaited c.args.rep.now) ∙ (rw (← c.self.view_is) at c.requires.open) due) in (
+      ended c.self.invariant.0 (is_same c.args.rep.now) c.clear.new.self c.clear.ensures.counts c.clear.ensures.links c.clear.ensures.awaited (omega (arith, c.clear.ensures.room))
+          (λ s e. lent_entry c.args.rep.now e) c.lend_line-lent.new.slots.rows c.lend_line-lent.new.slots.marked c.lend_line-lent.new.slots.room c.lend_line-lent.ensures.rows c.lend_line-lent.ensures.marked c.lend_line-lent.ensures.room
+          (lent_open c.self.invariant.0 c.args.rep.now lined) (λ s e r off. due_other c.args.rep.now r e.message off) (λ s e. refl),
+      granted_carried c.self.inside.copies c.args.rep.now (items_of c.self.inside.slots.rows) (items_of c.lend_line-lent.new.slots.rows) c.self.invariant.1 (ap items_of c.lend_line-lent.ensures.rows ∙ lent_items c.args.rep.now c.self.inside.slots.rows),
+      c.self.invariant.2,
+    )
 
 pub returns-clause-items : goal.returns-clause-items
 returns-clause-items c = rw (← c.self.view_is) (ap items_of c.lend_line-lent.ensures.rows ∙ lent_items c.args.rep.now c.self.inside.slots.rows)
