@@ -291,7 +291,7 @@ were_pinned deed D none (one ∷ sent_items) = (pinned_kept deed D one (none one
 
 -- so it is with every right deed
 pub pinned_earlier : (s n : ℕ) (limits : Limits) (deed : Deed) (D : List Deed) → AreRightDeeds s n limits (deed ∷ D) → WerePinned deed D (sent (history_of s n D))
-pinned_earlier s n limits (did.Open p k) D right = all_weaker (λ (one : SentItem). is_pinned (did.Open p k ∷ D) one ≡ is_pinned D one) (λ (one : SentItem). is_pinned (did.Open p k ∷ D) one ≡ true → is_pinned D one ≡ true) (λ one same is. sym same ∙ is) (sent (history_of s n D)) (opened_each s n limits p k D right)
+pinned_earlier s n limits (did.Open p k) D right = opened_each s n limits p k D right
 pinned_earlier s n limits deed D right = were_pinned deed D (λ p. refl) (sent (history_of s n D))
 
 -- ---- one deed more

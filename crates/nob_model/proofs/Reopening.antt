@@ -2,7 +2,7 @@
 use Rattle.std.proofs.Common.{◌≡◌, ℕ, ◌+◌, ◌-◌, ◌≤◌, ◌<◌, ◌&&◌, ◌||◌, not, max, Bool, true, false, cond, List, [], ◌∷◌, ◌++◌, length, map, filter, flat_map, refl, sym, ap, subst, ◌∙◌, arith}
 use Rattle.std.specs.Prelude.{◌==◌}
 use Rattle.std.specs.List.{AllByRecursion, list_any}
-use Rattle.std.proofs.lemmas.Bool.{eq-eqb, ne_eqb, and_from, or_parts, both_ways, false_from_ne_true}
+use Rattle.std.proofs.lemmas.Bool.{eqb-true, eq-eqb, ne_eqb, and_from, and_parts, or_parts, both_ways, false_from_ne_true}
 use Rattle.std.proofs.lemmas.List.{length-append}
 use Rattle.std.proofs.lemmas.List.Elements.{filter-append}
 use Rattle.nob_ids.specs.Names.{is_same, is_counted}
@@ -22,10 +22,10 @@ use Rattle.nob_model_history.specs.declared.transit.SentItem.{SentItem}
 use Rattle.nob_model_history.specs.Histories.{history_of}
 use Rattle.nob_model_history.specs.Ends.{calls_at}
 use Rattle.nob_model_history.specs.Holds.{times, gains, releases, lent_in, is_held}
-use Rattle.nob_model_history.specs.Transit.{sent, is_pinned, bundles, pinned, pins}
+use Rattle.nob_model_history.specs.Transit.{is_some_of, sent, is_settled, is_pinned, bundles, pinned, pins}
 use Rattle.nob_model_history.proofs.Anew.{work_opened}
 use Rattle.nob_model_history.proofs.Numbered.{sent_sessions}
-use Rattle.nob_model_history.proofs.Pinning.{opened_pins, bundles_opened}
+use Rattle.nob_model_history.proofs.Pinning.{bundles_opened}
 use Rattle.nob_model_history.proofs.Turning.{same_ref}
 use Rattle.nob_model.specs.Opening.{is_owned_by, holds_any_of, carries_any_of, still_held, next_number}
 use Rattle.nob_model.specs.Right.{right_after}
@@ -154,12 +154,17 @@ numbers_rise s n limits (deed ∷ D) right = numbers_rise s n limits D right.1
 pub opened_held : (s n p k : ℕ) (D : List Deed) (rep : WireRep) → is_held s rep (history_of s n (did.Open p k ∷ D)) ≡ is_held s rep (history_of s n D)
 opened_held s n p k D rep = ap (λ (W : Outstanding). not ((times rep (gains D) + times rep (lent_in s W)) - times rep (releases D) == 0)) (work_opened s n p k D)
 
+pinned_if : (some settled shut : Bool) (session before k : ℕ) (b : Bool) → (b ≡ true → (session == k) ≡ false) → (some && session == cond b k before && not (cond b false settled) && not (cond b false shut)) ≡ true → (some && session == before && not settled && not shut) ≡ true
+pinned_if some settled shut session before k true other is = absurd (both_ways (session == k) (other refl) (and_parts some (session == k) (and_parts _ _ (and_parts _ _ is).0).0).1)
+pinned_if some settled shut session before k false other is = is
+
 module _ (s n : ℕ) (limits : Limits) (p k : ℕ) (D : List Deed) (right : AreRightDeeds s n limits (did.Open p k ∷ D)) where
-  -- what was sent has pins exactly if it had them: the session that opens has none, nor had it when it was closed
-  pub opened_each : AllByRecursion (λ (one : SentItem). is_pinned (did.Open p k ∷ D) one ≡ is_pinned D one) (sent (history_of s n D))
+  -- what was sent and has pins had them: the session that opens has none
+  pub opened_each : AllByRecursion (λ (one : SentItem). is_pinned (did.Open p k ∷ D) one ≡ true → is_pinned D one ≡ true) (sent (history_of s n D))
   opened_each =
-      each_weaker (λ (one : SentItem). one.session ≤ number one.to D) (λ (one : SentItem). is_pinned (did.Open p k ∷ D) one ≡ is_pinned D one)
-      (λ one most. opened_pins p k D (open_number s n limits p k D right.0) (open_closed s n limits p k D right.0) one most)
+      each_weaker (λ (one : SentItem). one.session ≤ number one.to D) (λ (one : SentItem). is_pinned (did.Open p k ∷ D) one ≡ true → is_pinned D one ≡ true)
+      (λ one most. pinned_if (is_some_of (counted_in one.item)) (is_settled one.to one.number D) (closed one.to D) one.session (number one.to D) k (p == one.to)
+      (λ same. ne_eqb one.session k (λ now. let above : number one.to D < k = subst (λ (q : ℕ). number q D < k) (eqb-true p one.to same) (open_number s n limits p k D right.0) in omega (arith, most, above, now))))
       (sent (history_of s n D)) (sent_sessions s n D (numbers_rise s n limits D right.1))
 
   -- the bundles are as they were

@@ -1,5 +1,5 @@
 -- Open: a session that closed opens anew once nothing of its peer's objects is left here.
-use Rattle.std.specs.Prelude.{ℕ, ◌+◌, max, Bool, ◌&&◌, ◌||◌, ◌==◌, not, nat_lt, List, ◌++◌, Option, Result}
+use Rattle.std.specs.Prelude.{ℕ, ◌+◌, max, Bool, ◌&&◌, ◌||◌, ◌==◌, not, nat_lt, ◌++◌, Option, Result}
 use Rattle.std.specs.List.{list_any}
 use Rattle.nob_ids.specs.Names.{is_counted}
 use Rattle.nob_ids.specs.declared.wire_rep.WireRep.{WireRep}

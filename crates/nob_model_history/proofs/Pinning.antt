@@ -139,7 +139,7 @@ unfolding gifts gifts_of
 opening_gives_nothing s n p k D W = refl
 
 -- what is of another receiver has pins as before an Open, and what is of its receiver and of an older session has none
-pub opened_pins : (p k : ℕ) (D : List Deed) → number p D < k → closed p D ≡ true → (one : SentItem) → one.session ≤ number one.to D → is_pinned (did.Open p k ∷ D) one ≡ is_pinned D one
+opened_pins : (p k : ℕ) (D : List Deed) → number p D < k → closed p D ≡ true → (one : SentItem) → one.session ≤ number one.to D → is_pinned (did.Open p k ∷ D) one ≡ is_pinned D one
 opened_pins p k D above ended one most = elim (p == one.to) as (λ (b : Bool). (p == one.to) ≡ b → (is_some_of (counted_in one.item) && one.session == cond b k (number one.to D) && not (cond b false (is_settled one.to one.number D)) && not (cond b false (closed one.to D))) ≡ is_pinned D one) [
   | true ↦ λ own.
       let same : p ≡ one.to = eqb-true p one.to own in

@@ -1,6 +1,6 @@
 -- The opening of a session anew: what the looks tell, and the state that it leaves. The session had closed and nothing of
 -- its peer's objects was left, so that what the words say anew is what the state has.
-use Rattle.std.proofs.Common.{◌≡◌, ℕ, ◌+◌, ◌-◌, ◌≤◌, ◌<◌, max, Bool, true, false, cond, not, ◌&&◌, ◌||◌, ◌==◌, List, [], ◌∷◌, ◌++◌, length, map, filter, flat_map, filter_map, get_or, slice_get, Some, None, Ok, Err, refl, sym, ap, subst, ◌∙◌, arith, if◌then◌else◌}
+use Rattle.std.proofs.Common.{◌≡◌, ℕ, ◌+◌, ◌-◌, ◌≤◌, ◌<◌, max, Bool, true, false, cond, not, ◌&&◌, ◌||◌, ◌==◌, List, [], ◌∷◌, ◌++◌, length, map, filter, flat_map, get_or, slice_get, Some, None, Ok, Err, refl, sym, ap, subst, ◌∙◌, arith, if◌then◌else◌}
 use Rattle.std.specs.Prelude.{nat_lt, nat_le}
 use lib.ListN.{set}
 use Rattle.std.specs.List.{AllByRecursion, list_any, sum_by}
@@ -43,8 +43,9 @@ use Rattle.nob_model_history.specs.Holds.{times, gains, releases, lent_in, is_he
 use Rattle.nob_model_history.specs.Listing.{is_listed, is_entered}
 use Rattle.nob_model_history.specs.Transit as transit
 use Rattle.nob_model_acting.specs.Sending.{◌or_else◌, refuse_if, unless}
+use Rattle.nob_model_history.proofs.Anew.{calls_opened, calls_other, dirties_opened, work_opened}
 use Rattle.nob_model_history.proofs.Sessions.{number_is}
-use Rattle.nob_model.proofs.Reopening.{open_peer, open_closed, open_unheld, open_uncarried, opened_work, opened_sent, opened_calls, opened_bundles}
+use Rattle.nob_model.proofs.Reopening.{open_peer, open_closed, open_unheld, open_uncarried, opened_bundles}
 use Rattle.nob_model.specs.Lists.{IsRightDeed}
 use Rattle.nob_model.specs.Opening.{is_owned_by, holds_any_of, still_held, next_number, right_open}
 use Rattle.nob_model.specs.Opening as opening
@@ -203,10 +204,10 @@ held_first : (a b c : Bool) → a ≡ true → (a || b || c) ≡ true
 held_first a b c e = rw e refl
 
 held_second : (a b c : Bool) → b ≡ true → (a || b || c) ≡ true
-held_second a b c e = rw e (or_true a)
+held_second a b c e = elim a as (λ x. (x || b || c) ≡ true) [ true ↦ refl | false ↦ rw e refl ]
 
 held_third : (a b c : Bool) → c ≡ true → (a || b || c) ≡ true
-held_third a b c e = rw e (elim a as (λ x. (x || b || true) ≡ true) [ true ↦ refl | false ↦ or_true b ])
+held_third a b c e = elim a as (λ x. (x || b || c) ≡ true) [ true ↦ refl | false ↦ rw e (or_true b) ]
 
 -- the number of the next session of an end
 next_is : (s n p : ℕ) (limits : Limits) (D : List Deed) (e : End) → session.Stands s p limits e (calls_at p (history_of s n D)) → next_of e ≡ next_number p (history_of s n D)
@@ -311,10 +312,6 @@ module _ {s n : ℕ} {limits : Limits} {st : State} {D : List Deed} (stands : St
   bundles_then : transit.bundles (history_of s n (Open p k ∷ D)) ≡ transit.bundles (history_of s n D)
   bundles_then = opened_bundles s n limits p k D (its, stands.right)
 
-  -- the same Dirties were sent
-  dirties_then : transit.dirties (history_of s n (Open p k ∷ D)) ≡ transit.dirties (history_of s n D)
-  dirties_then = ap (filter_map (λ (one : SentItem). transit.asks_for one.to one.item)) (opened_sent s n p k D)
-
   -- the table knows nothing of the peer's
   unknown_then : (rep : WireRep) → is_counted rep ≡ true → is_own s rep ≡ false → rep.owner ≡ p → (standing st.table rep).state ≡ states.Unknown
   unknown_then rep counted own is =
@@ -334,9 +331,9 @@ module _ {s n : ℕ} {limits : Limits} {st : State} {D : List Deed} (stands : St
       | false ↦ λ other. stands.table.far rep counted own
     ] refl;
     hands = stands.table.hands;
-    loans = λ rep counted. stands.table.loans rep counted ∙ ap (λ w. times rep (lent_in s w)) (sym (opened_work s n p k D));
-    dirties = stands.table.dirties ∙ ap length (sym dirties_then);
-    places = λ rep. stands.table.places rep ∙ ap (λ reps. if standings.is_surrogate (standing st.table rep).state then transit.last_place rep reps else None) (sym dirties_then);
+    loans = λ rep counted. stands.table.loans rep counted ∙ ap (λ w. times rep (lent_in s w)) (sym (work_opened s n p k D));
+    dirties = stands.table.dirties ∙ ap length (sym (dirties_opened s n p k D));
+    places = λ rep. stands.table.places rep ∙ ap (λ reps. if standings.is_surrogate (standing st.table rep).state then transit.last_place rep reps else None) (sym (dirties_opened s n p k D));
     kept = used_still s st.table st.table (history_of s n D) (history_of s n (Open p k ∷ D)) (λ rep. refl) bundles_then listed_then stands.table.kept;
   }
 
@@ -354,15 +351,14 @@ module _ {s n : ℕ} {limits : Limits} {st : State} {D : List Deed} (stands : St
       → Stands s n limits (with_sessions (set st.sessions (p - 1) new) st) (Open p k ∷ D)
   opened_stands old new is after =
       let there = end_there s n limits st.sessions (history_of s n D) p old stands.ends (open_peer s n limits p k D its) is in
-      let here : calls_at p (history_of s n (Open p k ∷ D)) ≡ ends.Reopen k (Ok tt) ∷ calls_at p (history_of s n D) = opened_calls s n p k D p ∙ rw (nat_eq_equiv.refl p) refl in
-      record {
+        record {
         ends = ends_changed s n limits st.sessions (history_of s n D) (history_of s n (Open p k ∷ D)) p new stands.ends there.0
-            (subst (λ calls. session.Stands s p limits new.end calls) (sym here) after)
-            (λ q other. sym (opened_calls s n p k D q ∙ rw (nat_eq_equiv.symm p q, other) refl));
+            (subst (λ calls. session.Stands s p limits new.end calls) (sym (calls_opened s n p k D)) after)
+            (λ q other. sym (calls_other s n q p k D (nat_eq_equiv.symm p q ∙ other)));
         table = table_then;
         listed = λ index client. stands.listed index client ∙ sym (listed_then index client);
         pins = λ f. stands.pins f ∙ ap (λ items. sum_by f (map bundle items)) (sym bundles_then);
-        work = stands.work ∙ sym (opened_work s n p k D);
+        work = stands.work ∙ sym (work_opened s n p k D);
         awaited = awaited_then;
         calls = stands.calls;
         jobs = stands.jobs;
