@@ -69,7 +69,8 @@ fn of_end(refusal: EndRefusal) -> Refusal
         EndRefusal::Closed => Refusal::Closed,
         EndRefusal::QueueFull => Refusal::QueueFull,
         EndRefusal::SeqEnd => Refusal::SeqEnd,
-        EndRefusal::Strange | EndRefusal::StillOpen => Refusal::NoPeer,
+        EndRefusal::Strange => Refusal::NoPeer,
+        EndRefusal::StillOpen => Refusal::StillOpen,
         EndRefusal::Number => Refusal::Limit,
     }
 }
