@@ -275,7 +275,7 @@ impl Space {
     /// The session with a peer, which closed here, opens anew: its number. NoPeer; StillOpen where
     /// it is open; StillHeld where a counted reference to an object of the peer's is held or pinned
     /// here, or stands in a message that waits; Limit where no number is left. It takes no memory.
-    /// A few steps, and linear in the messages that wait and their references.
+    /// A few look-ups.
     #[tactic(auto, unfolding(nob_model::specs::Right::right_after))]
     pub fn open(&mut self, peer: SpaceId) -> Result<u32, Refusal>
         ensures answer { StepAnswers self.old (events.Open peer)

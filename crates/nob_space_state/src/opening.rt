@@ -19,8 +19,7 @@ impl Parts {
     /// Open: the session with a peer, which has closed here, opens anew: the number that it has
     /// now, above the one before and none below what the peer's frames had. Refused by NoPeer,
     /// StillOpen, StillHeld where a counted reference of the peer's is held, pinned or stands in a
-    /// message that waits, and Limit where no number is left. It takes no memory. A few look-ups,
-    /// and linear in the copies that messages wait with.
+    /// message that waits, and Limit where no number is left. It takes no memory. A few look-ups.
     pub fn open(&mut self, peer: SpaceId) -> Result<u32, Refusal>
         requires { IsState self.old }
         ensures answer { (limits : LimitsOf) (D : List Deed)

@@ -9,4 +9,5 @@ pub mod Ended
 pub mod Split
 pub mod Kept
 pub mod Found
+pub mod Carried
 pub mod Pushed

@@ -3,6 +3,7 @@
 //! answer touches only the messages that wait for it.
 #![tactic(auto)]
 
+mod copies;
 mod entry;
 mod iter;
 mod lending;

@@ -7,8 +7,8 @@ use crate::owner_lines::OwnerLines;
 use nob_ids::SpaceId;
 use std::alloc::{AllocError, Global};
 
-// The owners that there are: one for each space, at its number.
-const OWNERS: usize = SpaceId::MOST as usize + 1;
+/// The owners that there are: one for each space, at its number.
+pub const OWNERS: usize = SpaceId::MOST as usize + 1;
 
 /// Makes the lines that are missing. Only memory fails it, and then some may be there that weren't.
 pub fn make_owners(alloc: Global, owners: &mut Vec<OwnerLines>) -> Result<(), AllocError>

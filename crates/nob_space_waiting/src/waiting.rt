@@ -9,15 +9,17 @@ ghost use Rattle.nob_model_work.specs.Work.{without_first};
 ghost use Rattle.nob_slots.specs.Numbers.{numbers_of};
 ghost use Rattle.nob_slots.specs.Slots.{is_number, IsRising, PutsMark};
 ghost use Rattle.std.specs.List.{list_any};
-ghost use Rattle.nob_space_waiting.specs.Waiting as words;
-ghost use Rattle.nob_space_waiting.specs.Waiting.{due_to_all, granted_message, is_awaited, is_due_in, is_settleable_in, IsNew, waits_for, is_due};
-ghost use Rattle.nob_space_waiting.specs.Lines.{AreAwaited, AreMarked, LineList, places_for, times_in, without};
+ghost use Rattle.nob_space_waiting.specs.Waiting.{carries_any_of, due_to_all, granted_message, is_awaited, is_due_in, is_settleable_in, IsNew, waits_for, is_due};
+ghost use Rattle.nob_space_waiting.specs.Copies.{AreCarried};
+ghost use Rattle.nob_space_waiting.specs.Lines.{AreAwaited, AreMarked, LineList, items_of, places_for, times_in, without};
 
+use crate::copies::{count_all, has_copies, no_copies, uncount_all};
 use crate::entry::Entry;
 use crate::iter::From;
 use crate::lending::{is_due, lend_line};
 use crate::lines::Lines;
 use crate::losing::{lower_all, lower_line};
+use crate::owners::OWNERS;
 use nob_ids::{SpaceId, WireRep};
 use nob_model_types::Message;
 use nob_model_types::message::RefCopy;
@@ -37,6 +39,8 @@ pub struct Waiting {
     // The stamps of the messages from each space.
     froms: Numbers,
     lines: Lines,
+    // How many copies of counted references of each owner the messages carry, at its number.
+    copies: [u64; OWNERS],
     // The stamp of the next message, above all in use.
     next: u64,
     // A message of fewer copies than this fits.
@@ -51,6 +55,7 @@ impl Drop for Waiting {
             slots: _,
             froms: _,
             lines: _,
+            copies: _,
             next: _,
             room: _,
         } = self;
@@ -68,6 +73,7 @@ impl Model for Waiting {
     ghost coded = { Prim.hlevel (codes, trees_code) };
 
     ghost use Rattle.nob_space_waiting.specs.Lines.{AreWaiting, items_of, reps_in};
+    ghost use Rattle.nob_space_waiting.specs.Copies.{AreCarried, AreFew};
 
     ghost view = { λ w. record {
       items = items_of w.slots.rows;
@@ -75,7 +81,8 @@ impl Model for Waiting {
       room = w.room;
     } };
 
-    ghost invariant = { λ w. AreWaiting w.slots.rows w.slots.marked w.slots.room w.froms w.lines w.next w.room };
+    ghost invariant = { λ w. AreWaiting w.slots.rows w.slots.marked w.slots.room w.froms w.lines w.next w.room
+        × AreCarried w.copies (items_of w.slots.rows) × AreFew w.copies w.next };
 }
 
 // The most stamps and copies that there can be.
@@ -124,35 +131,32 @@ fn line_up(lines: &mut Lines, copies: &[RefCopy], stamp: u64) -> u64
     waits
 }
 
-// Whether a message carries a counted reference of this owner. Linear in its copies.
-fn carries_any_of(owner: SpaceId, message: &Message) -> bool
-    ensures { result ≡ words.carries_any_of owner message.now }
-{
-    let copies = message.copies.as_slice();
-    copies
-        .iter()
-        .any(|copy| copy.rep.owner == owner && copy.rep.is_counted())
-}
-
-// Takes the entry of a stamp out, if there is one.
-fn take_one(slots: &mut Slots<Entry>, stamp: u64)
+// Takes the entry of a stamp out, if there is one, and counts its copies no longer.
+fn take_one(slots: &mut Slots<Entry>, counts: &mut [u64; OWNERS], stamp: u64)
+    requires carried { AreCarried counts.old (items_of slots.old.rows) }
     ensures rows { slots.new.rows ≡ remove_entry (is_number stamp) slots.old.rows }
     ensures marked { PutsMark slots.old.marked slots.new.marked stamp false }
     ensures room { slots.new.room ≡ slots.old.room }
+    ensures carried { AreCarried counts.new (items_of slots.new.rows) }
 {
-    let _entry = slots.take(stamp);
+    let Some(entry) = slots.take(stamp) else {
+        return;
+    };
+    uncount_all(counts, entry.message.copies.as_slice());
 }
 
-// Takes the entries of a space's stamps out. Linear in them, each with a look for it.
-fn take_all(slots: &mut Slots<Entry>, froms: &Numbers, peer: SpaceId)
+// Takes the entries of a space's stamps out. Linear in them and their copies, with a look for each.
+fn take_all(slots: &mut Slots<Entry>, counts: &mut [u64; OWNERS], froms: &Numbers, peer: SpaceId)
+    requires carried { AreCarried counts.old (items_of slots.old.rows) }
     requires rising { IsRising slots.old.rows }
     requires marked { AreMarked slots.old.rows slots.old.marked }
     ensures rows { slots.new.rows ≡ without (numbers_of froms.now peer) slots.old.rows }
     ensures marked { AreMarked slots.new.rows slots.new.marked }
     ensures room { slots.new.room ≡ slots.old.room }
+    ensures carried { AreCarried counts.new (items_of slots.new.rows) }
 {
     for stamp in froms.iter(peer) {
-        take_one(slots, stamp);
+        take_one(slots, counts, stamp);
     }
 }
 
@@ -167,6 +171,7 @@ impl Waiting {
             slots: Slots::new(alloc),
             froms: Numbers::new(alloc),
             lines: Lines::new(alloc),
+            copies: no_copies(),
             next: 0,
             room: 0,
         }
@@ -190,14 +195,11 @@ impl Waiting {
         }
     }
 
-    /// Whether a message carries a counted reference of this owner. Linear in the messages and their
-    /// copies.
+    /// Whether a message carries a counted reference of this owner. Constant time.
     pub fn carries_any_of(&self, owner: SpaceId) -> bool
-        ensures { result ≡ list_any (words.carries_any_of owner) self.now.items }
+        ensures { result ≡ list_any (carries_any_of owner) self.now.items }
     {
-        self.slots
-            .iter()
-            .any(|(_stamp, entry)| carries_any_of(owner, &entry.message))
+        has_copies(&self.copies, owner)
     }
 
     /// Makes room for one message of so many copies. Only memory fails it, or that more came in all
@@ -236,6 +238,7 @@ impl Waiting {
         let stamp = self.next;
         let copies = message.copies.as_slice();
         let waits = line_up(&mut self.lines, copies, stamp);
+        count_all(&mut self.copies, copies);
         self.next = stamp + 1 + copies.len() as u64;
         self.room = 0;
         self.froms.push(message.from, stamp);
@@ -296,7 +299,7 @@ impl Waiting {
     }
 
     /// Takes the first message out that may be settled. It takes no memory. As `first_settleable`,
-    /// and constant time on average beside that.
+    /// and linear in its copies on average beside that.
     pub fn take_settleable(&mut self) -> Option<Message>
         ensures message { result ≡ find (is_settleable_in self.old) self.old.items }
         ensures items { self.new.items
@@ -306,18 +309,19 @@ impl Waiting {
     {
         let stamp = self.slots.first_marked(0)?;
         let Entry { message, .. } = self.slots.take(stamp)?;
+        uncount_all(&mut self.copies, message.copies.as_slice());
         self.froms.take(message.from, stamp);
         Some(message)
     }
 
     /// Drops the messages from a space, whose session has closed. It takes no memory. Linear in those
-    /// messages, each with a look for it.
+    /// messages and their copies, with a look for each message.
     pub fn drop_from(&mut self, peer: SpaceId)
         ensures items { self.new.items ≡ filter (is_not_from peer) self.old.items }
         ensures awaited { self.new.awaited ≡ self.old.awaited }
         ensures room { self.new.room ≡ self.old.room }
     {
-        take_all(&mut self.slots, &self.froms, peer);
+        take_all(&mut self.slots, &mut self.copies, &self.froms, peer);
         self.froms.clear(peer);
     }
 }

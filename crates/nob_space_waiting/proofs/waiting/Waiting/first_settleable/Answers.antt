@@ -4,7 +4,7 @@ use Rattle.nob_space_waiting.proofs.Found.{first_found, first_none}
 use Rattle.nob_space_waiting.proofs.waiting.Waiting.first_settleable.Goals as goal
 
 pub returns-in_err-stamp : goal.returns-in_err-stamp
-returns-in_err-stamp c = ap option_copied c.from_residual.ensures ∙ rw (← c.self.view_is) (sym ((first_none c.self.invariant c.in_err-stamp.ensures.first).0))
+returns-in_err-stamp c = ap option_copied c.from_residual.ensures ∙ rw (← c.self.view_is) (sym ((first_none c.self.invariant.0 c.in_err-stamp.ensures.first).0))
 
 pub returns : goal.returns
-returns c = rw (← c.self.view_is) (sym ((first_found c.self.invariant c.in_ok-stamp.stamp c.in_ok-entry.entry.now c.in_ok-stamp.ensures.first (sym c.get.ensures ∙ ap option_copied c.in_ok-entry.was)).0))
+returns c = rw (← c.self.view_is) (sym ((first_found c.self.invariant.0 c.in_ok-stamp.stamp c.in_ok-entry.entry.now c.in_ok-stamp.ensures.first (sym c.get.ensures ∙ ap option_copied c.in_ok-entry.was)).0))

@@ -4,10 +4,10 @@ use Rattle.nob_space_waiting.proofs.Stamps.{messages_few, messages_from, there_f
 use Rattle.nob_space_waiting.proofs.waiting.Waiting.from.Goals as goal
 
 pub invariant_of-result : goal.invariant_of-result
-invariant_of-result c = subst (AreThere c.self.inside.slots.rows) (sym (c.iter.ensures.items ∙ c.self.invariant.stamps c.args.peer)) (there_from c.args.peer c.self.inside.slots.rows c.self.invariant.rising)
+invariant_of-result c = subst (AreThere c.self.inside.slots.rows) (sym (c.iter.ensures.items ∙ c.self.invariant.0.stamps c.args.peer)) (there_from c.args.peer c.self.inside.slots.rows c.self.invariant.0.rising)
 
 pub returns-clause-items : goal.returns-clause-items
-returns-clause-items c = rw (← c.self.view_is) (ap (messages_at c.self.inside.slots.rows) (c.iter.ensures.items ∙ c.self.invariant.stamps c.args.peer) ∙ messages_from c.args.peer c.self.inside.slots.rows c.self.invariant.rising)
+returns-clause-items c = rw (← c.self.view_is) (ap (messages_at c.self.inside.slots.rows) (c.iter.ensures.items ∙ c.self.invariant.0.stamps c.args.peer) ∙ messages_from c.args.peer c.self.inside.slots.rows c.self.invariant.0.rising)
 
 pub returns-clause-fits : goal.returns-clause-fits
 returns-clause-fits c =

@@ -1,6 +1,7 @@
 use Rattle.std.proofs.Common.{arith, ◌==◌, ap, refl, ◌∙◌}
 use Rattle.std.specs.Map.{keys_of}
 use Rattle.nob_space_waiting.specs.Lines.{items_of, lines_of, lowered_entry, times_of}
+use Rattle.nob_space_waiting.proofs.Carried.{same_carried}
 use Rattle.nob_space_waiting.proofs.Ended.{awaited_but, ended}
 use Rattle.nob_space_waiting.proofs.Split.{owner_open}
 use Rattle.nob_space_waiting.proofs.Rows.{changed_items}
@@ -8,10 +9,13 @@ use Rattle.nob_space_waiting.proofs.waiting.Waiting.lose_of.Goals as goal
 
 pub invariant_of-self : goal.invariant_of-self
 invariant_of-self c =
-    let reps = keys_of (lines_of c.self.inside.lines c.args.owner).rows in
-    ended c.self.invariant (λ r. r.owner == c.args.owner) c.clear_of.new.self c.clear_of.ensures.counts c.clear_of.ensures.links c.clear_of.ensures.awaited (omega (arith, c.clear_of.ensures.room))
-    (λ s e. lowered_entry (times_of c.self.inside.lines reps s) e) c.lower_all.new.slots.rows c.lower_all.new.slots.marked c.lower_all.new.slots.room c.lower_all.ensures.rows c.lower_all.ensures.marked c.lower_all.ensures.room
-    (owner_open c.self.invariant c.args.owner reps c.lower_all.ensures.once c.lower_all.ensures.reps) (λ s e r off. refl) (λ s e. refl)
+    let reps = keys_of (lines_of c.self.inside.lines c.args.owner).rows in (
+      ended c.self.invariant.0 (λ r. r.owner == c.args.owner) c.clear_of.new.self c.clear_of.ensures.counts c.clear_of.ensures.links c.clear_of.ensures.awaited (omega (arith, c.clear_of.ensures.room))
+          (λ s e. lowered_entry (times_of c.self.inside.lines reps s) e) c.lower_all.new.slots.rows c.lower_all.new.slots.marked c.lower_all.new.slots.room c.lower_all.ensures.rows c.lower_all.ensures.marked c.lower_all.ensures.room
+          (owner_open c.self.invariant.0 c.args.owner reps c.lower_all.ensures.once c.lower_all.ensures.reps) (λ s e r off. refl) (λ s e. refl),
+      same_carried c.self.inside.copies (items_of c.self.inside.slots.rows) (items_of c.lower_all.new.slots.rows) c.self.invariant.1 (ap items_of c.lower_all.ensures.rows ∙ changed_items (λ s e. lowered_entry (times_of c.self.inside.lines reps s) e) c.self.inside.slots.rows (λ s e. refl)),
+      c.self.invariant.2,
+    )
 
 pub returns-clause-items : goal.returns-clause-items
 returns-clause-items c =
@@ -19,4 +23,4 @@ returns-clause-items c =
     rw (← c.self.view_is) (ap items_of c.lower_all.ensures.rows ∙ changed_items (λ s e. lowered_entry (times_of c.self.inside.lines reps s) e) c.self.inside.slots.rows (λ s e. refl))
 
 pub returns-clause-awaited : goal.returns-clause-awaited
-returns-clause-awaited c other = rw (← c.self.view_is) (awaited_but c.self.invariant (λ r. r.owner == c.args.owner) c.clear_of.new.self c.clear_of.ensures.counts c.clear_of.ensures.links c.clear_of.ensures.awaited (omega (arith, c.clear_of.ensures.room)) other)
+returns-clause-awaited c other = rw (← c.self.view_is) (awaited_but c.self.invariant.0 (λ r. r.owner == c.args.owner) c.clear_of.new.self c.clear_of.ensures.counts c.clear_of.ensures.links c.clear_of.ensures.awaited (omega (arith, c.clear_of.ensures.room)) other)

@@ -5,11 +5,17 @@ use Rattle.nob_space_waiting.proofs.waiting.Waiting.reserve.Goals as goal
 pub invariant_of-self-in_err-reserve-3 : goal.invariant_of-self-in_err-reserve-3
 invariant_of-self-in_err-reserve-3 c =
     rw (c.reserve.ensures.rows, c.reserve.ensures.marked) (
-    widened c.self.invariant c.reserve-3.new.self c.reserve-3.ensures.lines c.reserve-3.ensures.reps c.reserve-3.ensures.room c.reserve.new.self.room c.self.inside.room c.reserve-2.new.self c.reserve-2.ensures.numbers
-    (λ some. omega (arith, c.self.invariant.entry_room some, c.reserve.ensures.room)) (λ some. omega (arith, c.self.invariant.stamp_room some, c.reserve-2.ensures.room)) (omega (arith, c.self.invariant.line_room, c.reserve-3.ensures.room)) c.self.invariant.small)
+      widened c.self.invariant.0 c.reserve-3.new.self c.reserve-3.ensures.lines c.reserve-3.ensures.reps c.reserve-3.ensures.room c.reserve.new.self.room c.self.inside.room c.reserve-2.new.self c.reserve-2.ensures.numbers
+          (λ some. omega (arith, c.self.invariant.0.entry_room some, c.reserve.ensures.room)) (λ some. omega (arith, c.self.invariant.0.stamp_room some, c.reserve-2.ensures.room)) (omega (arith, c.self.invariant.0.line_room, c.reserve-3.ensures.room)) c.self.invariant.0.small,
+      c.self.invariant.1,
+      c.self.invariant.2,
+    )
 
 pub invariant_of-self-2 : goal.invariant_of-self-2
 invariant_of-self-2 c =
     rw (c.reserve.ensures.rows, c.reserve.ensures.marked) (
-    widened c.self.invariant c.reserve-3.new.self c.reserve-3.ensures.lines c.reserve-3.ensures.reps c.reserve-3.ensures.room c.reserve.new.self.room (c.args.copies + 1) c.reserve-2.new.self c.reserve-2.ensures.numbers
-    (λ some. omega (arith, c.in_ok-reserve.ensures.ok)) (λ some. omega (arith, c.in_ok-reserve-2.ensures.ok)) (omega (arith, c.in_ok-reserve-3.ensures.ok)) (omega (arith, c.if-self-gt-MOST.false, c.if-copies-ge-MOST.false)))
+      widened c.self.invariant.0 c.reserve-3.new.self c.reserve-3.ensures.lines c.reserve-3.ensures.reps c.reserve-3.ensures.room c.reserve.new.self.room (c.args.copies + 1) c.reserve-2.new.self c.reserve-2.ensures.numbers
+          (λ some. omega (arith, c.in_ok-reserve.ensures.ok)) (λ some. omega (arith, c.in_ok-reserve-2.ensures.ok)) (omega (arith, c.in_ok-reserve-3.ensures.ok)) (omega (arith, c.if-self-gt-MOST.false, c.if-copies-ge-MOST.false)),
+      c.self.invariant.1,
+      c.self.invariant.2,
+    )
