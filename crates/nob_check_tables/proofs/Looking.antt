@@ -46,14 +46,15 @@ put_twice {K} {V} eq own k v w (e ∷ es) = by (put_twice eq own k v w es) (eq k
 
 -- ---- what is cut
 
-module _ {K : Type 0} (look cut : K → Bool) (gone : Bool) (agree : (k : K) → look k ≡ true → cut k ≡ gone) where
-  none_there : {V : Type 0} (b : Bool) → None {V} ≡ cond b None None
-  none_there true = refl
-  none_there false = refl
+-- what is one thing either way is that
+either_way : {A : Type 0} (b : Bool) (x : A) → x ≡ cond b x x
+either_way true x = refl
+either_way false x = refl
 
+module _ {K : Type 0} (look cut : K → Bool) (gone : Bool) (agree : (k : K) → look k ≡ true → cut k ≡ gone) where
   -- nothing is found where the keys that are looked for are cut, and where others are, what was
   pub found_without : {V : Type 0} (es : List (K × V)) → lookup look (filter (λ e. not (cut e.0)) es) ≡ cond gone None (lookup look es)
-  found_without [] = none_there gone
+  found_without [] = either_way gone None
   found_without {V} (e ∷ es) = by (found_without es) (cut e.0) (look e.0) refl refl
     where
       rest : List (K × V)
@@ -75,13 +76,9 @@ module _ {K : Type 0} (look cut : K → Bool) (gone : Bool) (agree : (k : K) →
           ap left stays ∙ ap (λ (b : Bool). cond b (Some e.1) (lookup look rest)) here ∙ sym (ap (λ (b : Bool). whole b (look e.0)) none ∙ ap (whole false) here)
       by others false false stays other = ap left stays ∙ ap (λ (b : Bool). cond b (Some e.1) (lookup look rest)) other ∙ others ∙ sym (ap (whole gone) other)
 
-  nothing_there : (b : Bool) → false ≡ cond b false false
-  nothing_there true = refl
-  nothing_there false = refl
-
   -- the same of keys alone
   pub any_without : (ks : List K) → list_any look (filter (λ k. not (cut k)) ks) ≡ cond gone false (list_any look ks)
-  any_without [] = nothing_there gone
+  any_without [] = either_way gone false
   any_without (k ∷ ks) = by (any_without ks) (cut k) (look k) refl refl
     where
       rest : List K
