@@ -68,9 +68,9 @@ words_of_target x = if word 1 2 x == 0 then 1 else 2
 unfoldable pub call_at : (n : ℕ) → List WireRep → WireRep → ℕ → Event
 call_at n objects rep x = events.Call (target_at n rep x) 1 (value_at objects (later (words_of_target x) x))
 
--- a tick of the session with a peer, or seldom its close, or that it is opened anew
+-- a tick of the session with a peer, now and then its close, or that it is opened anew
 unfoldable pub end_at : (peer x : ℕ) → Event
-end_at peer x = if nat_le (word 1 16 x) 1 then events.Close peer else (if nat_le (word 1 16 x) 3 then events.Open peer else events.Tick peer)
+end_at peer x = if nat_le (word 1 16 x) 3 then events.Close peer else (if nat_le (word 1 16 x) 5 then events.Open peer else events.Tick peer)
 
 -- the same behind the first fifteen words: what comes in, and what goes out
 unfoldable pub later_event : (peer : ℕ) → WireRep → ℕ → Event
@@ -90,7 +90,7 @@ frames_reached count word = if word == 0 then count else (if nat_le count 12 the
 
 -- one of the ends that have closed, seldom, if there is one
 abbrev pub closed_at : List SessionEnd → ℕ → Option SessionEnd
-closed_at closed x = if word 1 16 x == 0 then slice_get closed (word 2 (length closed) x) else None
+closed_at closed x = if word 1 8 x == 0 then slice_get closed (word 2 (length closed) x) else None
 
 -- a step that delivers nothing: this end is opened anew, if there is one, or a space is asked something
 abbrev pub asking_at : (n : ℕ) → List WireRep → (calls jobs : ℕ) → Option SessionEnd → ℕ → WorldStep

@@ -50,16 +50,16 @@ fn random_call(
     })
 }
 
-// A tick of the session with a peer, or seldom its close, or that it is opened anew.
+// A tick of the session with a peer, now and then its close, or that it is opened anew.
 #[tactic(auto, unfolding(crate::specs::Choices::end_at))]
 fn random_end(words: &mut Words, peer: SpaceId) -> Event
     ensures { result ≡ spec.end_at peer words.old.x }
 {
     let word = words.below(16);
-    if word <= 1 {
+    if word <= 3 {
         return Event::Close(peer);
     }
-    if word <= 3 {
+    if word <= 5 {
         return Event::Open(peer);
     }
     Event::Tick(peer)
@@ -169,7 +169,7 @@ fn random_closed(words: &mut Words, closed: &[SessionEnd]) -> Option<SessionEnd>
     ensures end { result ≡ spec.closed_at closed.now words.old.x }
     ensures row { words.new.x ≡ spec.later 2 words.old.x }
 {
-    let seldom = words.below(16);
+    let seldom = words.below(8);
     let place = words.below(closed.len() as u64);
     if seldom != 0 {
         return None;
@@ -200,7 +200,7 @@ fn random_asking(
 }
 
 /// A step, where so many frames were transmitted: one of three delivers a frame, mostly one of the
-/// last, and of the others one of sixteen opens an end anew that has closed. Only memory fails it.
+/// last, and of the others one of eight opens an end anew that has closed. Only memory fails it.
 #[tactic(auto, unfolding(crate::specs::Choices::step_at))]
 pub fn random_step(
     alloc: Global,
