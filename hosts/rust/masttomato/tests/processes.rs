@@ -29,7 +29,7 @@ space 2: the session with space 1 closed for reason 3
 space 1: the session with space 2 closed for reason 3
 space 3: added 4: 27
 space 2: added nothing: there is no session with space 1
-space 2: opened no session with space 1: S16: something of the peer's is still held or pinned here, or waits here
+space 2: opened no session with space 1: S16: a reference to an object of the peer is held, is pinned or waits at this space
 space 2: gave the counter back
 space 2 can reach space 1 again
 space 1: opened session 2 with space 2

@@ -90,7 +90,8 @@ impl Process {
     fn end(mut self) -> Fallible<()> {
         drop(self.told);
         let status = self.child.wait()?;
-        if status.success() { Ok(()) } else { Err(format!("space {}: {status}", self.number).into()) }
+        let failed = || format!("space {}: {status}", self.number).into();
+        status.success().then_some(()).ok_or_else(failed)
     }
 }
 

@@ -1110,7 +1110,7 @@ impl Node {
     /// # let owner = Node::builder(one, Peers::none()).listen("127.0.0.1:0").spaces(two).start()?;
     /// # owner.bind("bell", &owner.export::<dyn Bell>(Box::new(Brass))?)?;
     /// # let peers = Peers::none().with(one, owner.address().ok_or("it listens")?);
-    /// # let node = Node::builder(two, peers).start()?;
+    /// # let node = Node::builder(two, peers).give_up_after(std::time::Duration::from_secs(60)).start()?;
     /// let mut changes = owner.changes()?;
     /// let bell: Remote<dyn Bell> = node.lookup(one, "bell").wait()?;
     /// node.close(one);

@@ -66,7 +66,7 @@ pub enum Refusal {
     Limit,
     /// S15: the session is open at this space.
     StillOpen,
-    /// S16: something of the peer's is still held or pinned here, or waits here.
+    /// S16: a reference to an object of the peer is held, is pinned or waits at this space.
     StillHeld,
 }
 
@@ -130,9 +130,10 @@ impl Refusal {
             Refusal::NoJob => ("S12", "the job isn't running"),
             Refusal::Limit => ("S13", "a limit is reached"),
             Refusal::StillOpen => ("S15", "the session is open at this space"),
-            Refusal::StillHeld => {
-                ("S16", "something of the peer's is still held or pinned here, or waits here")
-            }
+            Refusal::StillHeld => (
+                "S16",
+                "a reference to an object of the peer is held, is pinned or waits at this space",
+            ),
         }
     }
 }

@@ -10,9 +10,7 @@ mod things;
 use common::checking::fault_of;
 use common::nobj;
 use masttomato::engine::{Answered, HELLO, Why};
-use masttomato::space::{
-    Limits, Outcome, Reference, Refusal, SpaceError, Status, Trace, Value,
-};
+use masttomato::space::{Limits, Outcome, Reference, Refusal, SpaceError, Status, Trace, Value};
 use masttomato::{CallError, Fault, Node, NodeError, Peers, Reason, Remote, Run, Session};
 use plain::Plain;
 use proxy::Proxy;
