@@ -79,7 +79,7 @@ waiting_inside_send : IsSend WaitingInside.the_row
 waiting_inside_send =
     let T = WaitingInside.the_type in
     recorded_send (Struct (shape T)) T.D T.to T.to_one (struct_send (shape T)
-    (search sendable depth 30, (slots.the_send Entry.the_row entry_send, (space_numbers.the_send, (waiting_lines.the_send, (search sendable, (search sendable, tt)))))))
+    (search sendable depth 30, (slots.the_send Entry.the_row entry_send, (space_numbers.the_send, (waiting_lines.the_send, (search sendable depth 30, (search sendable, (search sendable, tt))))))))
 
 waiting_send : IsSend Waiting.the_row
 waiting_send = view_send WaitingInside.the_row _ _ _ _ waiting_inside_send
