@@ -199,6 +199,16 @@ fn random_asking(
     Ok(WorldStep::Do(space, random_event(alloc, words, known)?))
 }
 
+// A step that delivers nothing, by whether an end that has closed is opened anew.
+fn random_other(alloc: Global, words: &mut Words, known: &Known) -> Result<WorldStep, AllocError>
+    ensures { IfOk result (λ step. step
+        ≡ spec.asking_at known.now.n known.now.objects.items known.now.calls known.now.jobs
+        (spec.closed_at known.now.closed.items words.old.x) (spec.later 2 words.old.x)) }
+{
+    let end = random_closed(words, known.closed.as_slice());
+    random_asking(alloc, words, known, end)
+}
+
 /// A step, where so many frames were transmitted: one of three delivers a frame, mostly one of the
 /// last, and of the others one of eight opens an end anew that has closed. Only memory fails it.
 #[tactic(auto, unfolding(crate::specs::Choices::step_at))]
@@ -218,6 +228,5 @@ pub fn random_step(
         let behind = words.below(frames_reached(frames, seldom));
         return Ok(WorldStep::Deliver(frames.saturating_sub(behind)));
     }
-    let end = random_closed(words, known.closed.as_slice());
-    random_asking(alloc, words, known, end)
+    random_other(alloc, words, known)
 }
