@@ -4,7 +4,7 @@ use Rattle.std.proofs.lemmas.Bool.Decides.{nat_tests}
 use Rattle.nob_model_types.specs.declared.entry.Entry.{Entry}
 use Rattle.nob_rounds.specs.Notes.{news_in}
 use Rattle.nob_rounds.specs.Rounds.{WentRound}
-use Rattle.nob_rounds.specs.Endings.{ClosedOtherEnds, ClaimedAll, EndedCalls, ReleasedAll, WithdrewAll, WentEndRound, UnlessQuiet, WentEndRounds, most_rounds, Ended}
+use Rattle.nob_rounds.specs.Endings.{ClosedUnopen, ClaimedAll, EndedCalls, ReleasedAll, WithdrewAll, WentEndRound, UnlessQuiet, WentEndRounds, most_rounds, Ended}
 
 -- where it is quiet it ends
 when_quiet : (is_quiet : Bool) (quiet goes_on : Type 0) → is_quiet ≡ true → quiet → UnlessQuiet is_quiet quiet goes_on
@@ -34,7 +34,7 @@ went_on (Ok _) less most n m before after old middle new counted before_is after
 went_on (Err error) less most n m before after old middle new counted before_is after_is other same went rest = rest
 
 -- the parts of a round
-pub went_round : {E : Type 0} (r : Result (Unit {0}) E) (n n1 n2 n3 n4 : ℕ) (old closed claimed ended released new : List Entry) → n1 ≡ n → n2 ≡ n1 → n3 ≡ n2 → n4 ≡ n3 → ClosedOtherEnds n old closed → ClaimedAll n1 closed claimed → EndedCalls n2 claimed ended → ReleasedAll n3 ended released → OnOk r (WentRound n4 released new) → OnOk r (WentEndRound n old new)
+pub went_round : {E : Type 0} (r : Result (Unit {0}) E) (n n1 n2 n3 n4 : ℕ) (old closed claimed ended released new : List Entry) → n1 ≡ n → n2 ≡ n1 → n3 ≡ n2 → n4 ≡ n3 → ClosedUnopen n old closed → ClaimedAll n1 closed claimed → EndedCalls n2 claimed ended → ReleasedAll n3 ended released → OnOk r (WentRound n4 released new) → OnOk r (WentEndRound n old new)
 went_round (Ok _) n n1 n2 n3 n4 old closed claimed ended released new e1 e2 e3 e4 closes claims ends releases brings = record {
   closed = closed;
   closes = closes;

@@ -1,6 +1,6 @@
 -- The numbers up to one, by those up to the one before.
 use Rattle.std.proofs.Common.{arith, ◌≡◌, ◌<◌, ◌-◌, ℕ, suc, List, [], ◌∷◌, ◌++◌, refl, sym, ap, subst, ◌∙◌}
-use Rattle.nob_rounds.specs.Endings.{numbers_up_to}
+use Rattle.nob_rounds.specs.Sessions.{numbers_up_to}
 
 -- one number more
 next_number : (before last : ℕ) → last ≡ suc before → numbers_up_to before ++ last ∷ [] ≡ numbers_up_to last

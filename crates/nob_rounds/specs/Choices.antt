@@ -2,6 +2,7 @@
 use Prim.Native.Nat.{zero}
 use Rattle.std.specs.Prelude.{ℕ, suc, ◌+◌, ◌-◌, ◌%◌, ◌==◌, ◌&&◌, nat_le, List, [], ◌∷◌, length, slice_get, Option, Some, None, if◌then◌else◌}
 use Rattle.nob_rounds.specs.Row.{next, below}
+use Rattle.nob_rounds.specs.declared.sessions.SessionEnd.{SessionEnd}
 use Rattle.nob_ids.specs.declared.wire_rep.WireRep.{WireRep}
 use Rattle.nob_pickle.specs.declared.value.Value.{Value}
 use Rattle.nob_pickle.specs.declared.value.Value.TheVariants as values
@@ -67,9 +68,9 @@ words_of_target x = if word 1 2 x == 0 then 1 else 2
 unfoldable pub call_at : (n : ℕ) → List WireRep → WireRep → ℕ → Event
 call_at n objects rep x = events.Call (target_at n rep x) 1 (value_at objects (later (words_of_target x) x))
 
--- a tick of the session with a peer, or seldom its close
+-- a tick of the session with a peer, now and then its close, or that it is opened anew
 unfoldable pub end_at : (peer x : ℕ) → Event
-end_at peer x = if word 1 16 x == 0 then events.Close peer else events.Tick peer
+end_at peer x = if nat_le (word 1 16 x) 3 then events.Close peer else (if nat_le (word 1 16 x) 5 then events.Open peer else events.Tick peer)
 
 -- the same behind the first fifteen words: what comes in, and what goes out
 unfoldable pub later_event : (peer : ℕ) → WireRep → ℕ → Event
@@ -87,6 +88,15 @@ event_at n objects calls jobs x = event_about n objects calls jobs (space_at n x
 abbrev pub frames_reached : (count word : ℕ) → ℕ
 frames_reached count word = if word == 0 then count else (if nat_le count 12 then count else 12)
 
--- a step, where so many frames were transmitted: one of three delivers a frame, if there is one
-unfoldable pub step_at : (n : ℕ) → List WireRep → (calls jobs frames x : ℕ) → WorldStep
-step_at n objects calls jobs frames x = if (word 1 3 x == 0) && nat_le 1 frames then steps.Deliver (frames - word 3 (frames_reached frames (word 2 8 x)) x) else steps.Do (space_at n (later 1 x)) (event_at n objects calls jobs (later 2 x))
+-- one of the ends that have closed, seldom, if there is one
+abbrev pub closed_at : List SessionEnd → ℕ → Option SessionEnd
+closed_at closed x = if word 1 8 x == 0 then slice_get closed (word 2 (length closed) x) else None
+
+-- a step that delivers nothing: this end is opened anew, if there is one, or a space is asked something
+abbrev pub asking_at : (n : ℕ) → List WireRep → (calls jobs : ℕ) → Option SessionEnd → ℕ → WorldStep
+asking_at n objects calls jobs (Some end) x = steps.Do end.space (events.Open end.peer)
+asking_at n objects calls jobs None x = steps.Do (space_at n x) (event_at n objects calls jobs (later 1 x))
+
+-- a step, where so many frames were transmitted and these ends have closed: one of three delivers a frame, if there is one
+unfoldable pub step_at : (n : ℕ) → List WireRep → (calls jobs frames : ℕ) → List SessionEnd → ℕ → WorldStep
+step_at n objects calls jobs frames closed x = if (word 1 3 x == 0) && nat_le 1 frames then steps.Deliver (frames - word 3 (frames_reached frames (word 2 8 x)) x) else asking_at n objects calls jobs (closed_at closed (later 1 x)) (later 3 x)

@@ -7,27 +7,19 @@ use Rattle.nob_model_types.specs.declared.event.Event.{Event}
 use Rattle.nob_model_types.specs.declared.event.Event.TheVariants as events
 use Rattle.nob_model_types.specs.declared.entry.Entry.{Entry}
 use Rattle.nob_rounds.specs.Shown.{objects_of, greatest_call, greatest_job}
-use Rattle.nob_rounds.specs.declared.closings.ClosedEnd.{ClosedEnd}
-use Rattle.nob_rounds.specs.Notes.{closed_ends, news_in}
+use Rattle.nob_rounds.specs.declared.sessions.SessionEnd.{SessionEnd}
+use Rattle.nob_rounds.specs.Sessions.{numbers_up_to, spaces_of, unopen_ends}
+use Rattle.nob_rounds.specs.Notes.{news_in}
 use Rattle.nob_rounds.specs.declared.asking.Asking.{Asking}
-use Rattle.nob_rounds.specs.Rounds.{AskedEach, AskedEachUntilRefused, WentRound, spaces_in}
-
--- the numbers from 1 to this one
-abbrev pub numbers_up_to : ℕ → List ℕ
-numbers_up_to zero = []
-numbers_up_to (suc before) = numbers_up_to before ++ suc before ∷ []
-
--- the spaces of a world of n
-abbrev pub spaces_of : ℕ → List ℕ
-spaces_of n = numbers_up_to (spaces_in n)
+use Rattle.nob_rounds.specs.Rounds.{AskedEach, AskedEachUntilRefused, WentRound}
 
 -- a space is to be asked this
 abbrev pub to_ask : ℕ → Event → Asking
 to_ask space event = record { space = space; event = event }
 
--- of each end that closed, its peer is to close the other one
-abbrev pub closes : List ClosedEnd → List Asking
-closes ends = map (λ (end : ClosedEnd). to_ask end.peer (events.Close end.space)) ends
+-- the space of each end is to close it
+abbrev pub closes : List SessionEnd → List Asking
+closes ends = map (λ (end : SessionEnd). to_ask end.space (events.Close end.peer)) ends
 
 -- each space is to claim a job
 abbrev pub claims : List ℕ → List Asking
@@ -63,9 +55,9 @@ releases (space ∷ rest) objects = releases_at space objects ++ releases rest o
 abbrev pub withdrawals : List WireRep → List Asking
 withdrawals objects = map (λ (rep : WireRep). to_ask rep.owner (events.Withdraw rep.index)) objects
 
--- in a world of n spaces, the other end of each session that one end closed was asked to close
-abbrev pub ClosedOtherEnds : ℕ → List Entry → List Entry → Type 0
-ClosedOtherEnds n old new = AskedEach n (closes (closed_ends old)) old new
+-- in a world of n spaces, both ends of each session that isn't open were asked to close
+abbrev pub ClosedUnopen : ℕ → List Entry → List Entry → Type 0
+ClosedUnopen n old new = AskedEach n (closes (unopen_ends n old)) old new
 
 -- each space claimed jobs until it was refused, 4,096 times at most
 abbrev pub ClaimedAll : ℕ → List Entry → List Entry → Type 0
@@ -83,10 +75,10 @@ ReleasedAll n old new = AskedEachUntilRefused n (releases (spaces_of n) (objects
 abbrev pub WithdrewAll : ℕ → List Entry → List Entry → Type 0
 WithdrewAll n old new = AskedEach n (withdrawals (objects_of old)) old new
 
--- a round of the end: the other ends closed, jobs claimed, calls ended, objects given back, and all that is under way brought
+-- a round of the end: what isn't open closed at both ends, jobs claimed, calls ended, objects given back, and all that is under way brought
 pub record WentEndRound (n : ℕ) (old new : List Entry) : Type 0 where
   pub closed : List Entry
-  pub closes : ClosedOtherEnds n old closed
+  pub closes : ClosedUnopen n old closed
   pub claimed : List Entry
   pub claims : ClaimedAll n closed claimed
   pub ended : List Entry

@@ -2,9 +2,11 @@
 
 ghost use Rattle.std.specs.Prelude.{◌≡◌, ◌≤◌, IfOk};
 ghost use Rattle.nob_rounds.specs.Endings as spec;
+ghost use Rattle.nob_rounds.specs.Sessions as sessions;
 
 use crate::Asking;
-use crate::closings::ClosedEnd;
+use crate::rounds::spaces_among;
+use crate::sessions::SessionEnd;
 use nob_ids::{CallNo, JobNo, SpaceId, WireRep};
 use nob_model_types::{Event, Outcome};
 use std::alloc::{AllocError, Global};
@@ -13,7 +15,7 @@ use std::alloc::{AllocError, Global};
 #[tactic(auto, using(crate::proofs::Numbers::one_more))]
 pub(crate) fn spaces_up_to(alloc: Global, last: u16) -> Result<Vec<SpaceId>, AllocError>
     requires { last ≤ 32 }
-    ensures { IfOk result (λ spaces. spaces.items ≡ spec.numbers_up_to last) }
+    ensures { IfOk result (λ spaces. spaces.items ≡ sessions.numbers_up_to last) }
 {
     if last == 0 {
         return Ok(Vec::new(alloc));
@@ -26,14 +28,21 @@ pub(crate) fn spaces_up_to(alloc: Global, last: u16) -> Result<Vec<SpaceId>, All
     Ok(spaces)
 }
 
-// The closes of the other ends.
-pub(crate) fn closes(alloc: Global, ends: &[ClosedEnd]) -> Result<Vec<Asking>, AllocError>
+// The spaces of a world of n, the first first.
+pub(crate) fn all_spaces(alloc: Global, n: u16) -> Result<Vec<SpaceId>, AllocError>
+    ensures { IfOk result (λ spaces. spaces.items ≡ sessions.spaces_of n) }
+{
+    spaces_up_to(alloc, spaces_among(n))
+}
+
+// The closes of these ends.
+pub(crate) fn closes(alloc: Global, ends: &[SessionEnd]) -> Result<Vec<Asking>, AllocError>
     ensures { IfOk result (λ askings. askings.items ≡ spec.closes ends.now) }
 {
     ends.iter()
         .map(|end| Asking {
-            space: end.peer,
-            event: Event::Close(end.space),
+            space: end.space,
+            event: Event::Close(end.peer),
         })
         .collect(alloc)
 }
@@ -54,7 +63,7 @@ pub(crate) fn claims(alloc: Global, spaces: &[SpaceId]) -> Result<Vec<Asking>, A
 // The numbers up to this one, 1 first. It recurses once for each.
 #[tactic(auto, using(crate::proofs::Numbers::one_more))]
 fn numbers_up_to(alloc: Global, last: u64) -> Result<Vec<u64>, AllocError>
-    ensures { IfOk result (λ numbers. numbers.items ≡ spec.numbers_up_to last) }
+    ensures { IfOk result (λ numbers. numbers.items ≡ sessions.numbers_up_to last) }
 {
     if last == 0 {
         return Ok(Vec::new(alloc));

@@ -6,9 +6,9 @@ ghost use Rattle.nob_rounds.specs.Notes.{news_in as news_in_of};
 ghost use Rattle.nob_rounds.specs.Endings as spec;
 
 use crate::askings::{claims, closes, ends_of_calls, releases, spaces_up_to, withdrawals};
-use crate::closings::closed_ends;
 use crate::facts::news_in;
 use crate::known::{known_of, objects_of};
+use crate::sessions::unopen_ends;
 use crate::{ask_each, repeat_each, round, spaces_in};
 use nob_world::World;
 use std::alloc::{AllocError, Global};
@@ -50,27 +50,27 @@ fn end_rounds(alloc: Global, world: &mut World, most: u64) -> Result<(), AllocEr
     end_rounds(alloc, world, most - 1)
 }
 
-// One round: other ends are closed, jobs claimed, calls ended and holds given back, and what is
+// One round: what isn't open is closed at both ends, jobs claimed, calls ended and holds given back, and what is
 // under way is brought.
 fn end_round(alloc: Global, world: &mut World) -> Result<(), AllocError>
     ensures entries { OnOk result (spec.WentEndRound world.old.n
         world.old.entries world.new.entries) }
     ensures n { world.new.n ≡ world.old.n }
 {
-    close_other_ends(alloc, world)?;
+    close_unopen(alloc, world)?;
     claim_all(alloc, world)?;
     end_calls(alloc, world)?;
     release_all(alloc, world)?;
     round(world)
 }
 
-// Closes the other end of each session that one end has closed.
-fn close_other_ends(alloc: Global, world: &mut World) -> Result<(), AllocError>
-    ensures entries { OnOk result (spec.ClosedOtherEnds world.old.n
+// Closes both ends of each session that isn't open.
+fn close_unopen(alloc: Global, world: &mut World) -> Result<(), AllocError>
+    ensures entries { OnOk result (spec.ClosedUnopen world.old.n
         world.old.entries world.new.entries) }
     ensures n { world.new.n ≡ world.old.n }
 {
-    let ends = closed_ends(alloc, world.entries())?;
+    let ends = unopen_ends(alloc, world.n(), world.entries())?;
     let askings = closes(alloc, ends.as_slice())?;
     ask_each(world, askings.as_slice())
 }

@@ -19,15 +19,22 @@ pub struct Facts {
     pub cleanings: usize,
     /// Objects that were withdrawn.
     pub withdrawals: usize,
+    /// Sessions that were opened anew, counted at each end.
+    pub openings: usize,
 }
 
 impl Facts {
-    /// Whether replies, settlements, cleanings and withdrawals have all come.
+    /// Whether replies, settlements, cleanings, withdrawals and openings have all come.
     pub fn is_busy(&self) -> bool
         ensures { result ≡ (nat_le 1 self.now.replies && nat_le 1 self.now.settlements
-            && nat_le 1 self.now.cleanings && nat_le 1 self.now.withdrawals) }
+            && nat_le 1 self.now.cleanings && nat_le 1 self.now.withdrawals
+            && nat_le 1 self.now.openings) }
     {
-        self.replies >= 1 && self.settlements >= 1 && self.cleanings >= 1 && self.withdrawals >= 1
+        self.replies >= 1
+            && self.settlements >= 1
+            && self.cleanings >= 1
+            && self.withdrawals >= 1
+            && self.openings >= 1
     }
 
     /// How many objects weren't withdrawn.
@@ -48,6 +55,7 @@ pub fn facts_of(entries: &[Entry]) -> Facts
         settlements: count_of(Kind::Settlement, entries),
         cleanings: count_of(Kind::Cleaning, entries),
         withdrawals: count_of(Kind::Withdrawal, entries),
+        openings: count_of(Kind::Opening, entries),
     }
 }
 

@@ -1,8 +1,10 @@
 //! What a choice looks at.
 
 ghost use Rattle.std.specs.Prelude.{◌≡◌, IfOk};
+ghost use Rattle.nob_rounds.specs.Sessions as sessions;
 ghost use Rattle.nob_rounds.specs.Shown as spec;
 
+use crate::sessions::{SessionEnd, closed_ends};
 use nob_ids::WireRep;
 use nob_model_types::{Answer, Entry};
 use std::alloc::{AllocError, Global};
@@ -18,6 +20,8 @@ pub struct Known {
     pub calls: u64,
     /// The greatest number of a job.
     pub jobs: u64,
+    /// The ends of sessions that have closed.
+    pub closed: Vec<SessionEnd>,
 }
 
 // The object that an entry made.
@@ -79,17 +83,20 @@ fn greatest_job(entries: &[Entry]) -> u64
 }
 
 /// What a choice looks at in a world of so many spaces after these entries. Only memory fails it.
-/// Linear in the entries.
+/// Linear in the entries, for each two spaces.
 pub fn known_of(alloc: Global, n: u16, entries: &[Entry]) -> Result<Known, AllocError>
     ensures n { IfOk result (λ known. known.n ≡ n) }
     ensures objects { IfOk result (λ known. known.objects.items ≡ spec.objects_of entries.now) }
     ensures calls { IfOk result (λ known. known.calls ≡ spec.greatest_call entries.now) }
     ensures jobs { IfOk result (λ known. known.jobs ≡ spec.greatest_job entries.now) }
+    ensures closed { IfOk result (λ known. known.closed.items
+        ≡ sessions.closed_ends n entries.now) }
 {
     Ok(Known {
         n,
         objects: objects_of(alloc, entries)?,
         calls: greatest_call(entries),
         jobs: greatest_job(entries),
+        closed: closed_ends(alloc, n, entries)?,
     })
 }

@@ -18,6 +18,8 @@ pub enum Kind {
     Cleaning,
     /// An object was withdrawn.
     Withdrawal,
+    /// A session was opened anew.
+    Opening,
     /// Something is new: items came, one was acted on, a message was settled, a reference was given
     /// up, a session closed.
     News,
@@ -73,6 +75,16 @@ fn is_withdrawal(entry: &Entry) -> bool
     }
 }
 
+// Whether a session was opened anew.
+fn is_opening(entry: &Entry) -> bool
+    ensures { result ≡ spec.is_opening entry.now.result }
+{
+    match &entry.result {
+        Ok(Answer::Opened(_)) => true,
+        _ => false,
+    }
+}
+
 // Whether something is new: items came, one was acted on, a message was settled, a reference was
 // given up, a session closed.
 fn is_news(entry: &Entry) -> bool
@@ -98,6 +110,7 @@ fn is_of(kind: Kind, entry: &Entry) -> bool
         Kind::Settlement => is_settlement(entry),
         Kind::Cleaning => is_cleaning(entry),
         Kind::Withdrawal => is_withdrawal(entry),
+        Kind::Opening => is_opening(entry),
         Kind::News => is_news(entry),
     }
 }

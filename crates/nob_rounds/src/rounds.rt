@@ -74,17 +74,25 @@ pub fn round(world: &mut World) -> Result<(), AllocError>
     turns_up_to(world, count)
 }
 
+// How many spaces a world of n has.
+pub(crate) fn spaces_among(n: u16) -> u16
+    ensures count { result ≡ spec.spaces_in n }
+    ensures there { result ≤ n }
+    ensures few { result ≤ 32 }
+{
+    if n > SpaceId::MOST {
+        return SpaceId::MOST;
+    }
+    n
+}
+
 /// How many spaces a world has.
 pub fn spaces_in(world: &World) -> u16
     ensures count { result ≡ spec.spaces_in world.now.n }
     ensures there { result ≤ world.now.n }
     ensures few { result ≤ 32 }
 {
-    let n = world.n();
-    if n > SpaceId::MOST {
-        return SpaceId::MOST;
-    }
-    n
+    spaces_among(world.n())
 }
 
 // The turns of the spaces up to this number.

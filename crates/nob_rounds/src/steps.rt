@@ -7,6 +7,7 @@ ghost use Rattle.nob_rounds.specs.Choices as spec;
 use crate::Words;
 use crate::choices::{random_object, random_outcome, random_space, random_value};
 use crate::known::Known;
+use crate::sessions::SessionEnd;
 use nob_ids::{CallNo, JobNo, SpaceId, WireRep};
 use nob_model_types::{Event, WorldStep};
 use std::alloc::{AllocError, Global};
@@ -49,13 +50,17 @@ fn random_call(
     })
 }
 
-// A tick, or seldom a close, of the session with a peer.
+// A tick of the session with a peer, now and then its close, or that it is opened anew.
 #[tactic(auto, unfolding(crate::specs::Choices::end_at))]
 fn random_end(words: &mut Words, peer: SpaceId) -> Event
     ensures { result ≡ spec.end_at peer words.old.x }
 {
-    if words.below(16) == 0 {
+    let word = words.below(16);
+    if word <= 3 {
         return Event::Close(peer);
+    }
+    if word <= 5 {
+        return Event::Open(peer);
     }
     Event::Tick(peer)
 }
@@ -159,8 +164,43 @@ fn frames_reached(count: u64, word: u64) -> u64
     LAST_FRAMES
 }
 
+// One of the ends that have closed, seldom, if there is one.
+fn random_closed(words: &mut Words, closed: &[SessionEnd]) -> Option<SessionEnd>
+    ensures end { result ≡ spec.closed_at closed.now words.old.x }
+    ensures row { words.new.x ≡ spec.later 2 words.old.x }
+{
+    let seldom = words.below(8);
+    let place = words.below(closed.len() as u64);
+    if seldom != 0 {
+        return None;
+    }
+    match closed.get(place as usize) {
+        Some(end) => Some(*end),
+        None => None,
+    }
+}
+
+// A step that delivers nothing: an end is opened anew, if there is one, or a space is asked
+// something.
+fn random_asking(
+    alloc: Global,
+    words: &mut Words,
+    known: &Known,
+    end: Option<SessionEnd>,
+) -> Result<WorldStep, AllocError>
+    ensures { IfOk result (λ step. step
+        ≡ spec.asking_at known.now.n known.now.objects.items known.now.calls known.now.jobs
+        end words.old.x) }
+{
+    if let Some(end) = end {
+        return Ok(WorldStep::Do(end.space, Event::Open(end.peer)));
+    }
+    let space = random_space(words, known.n);
+    Ok(WorldStep::Do(space, random_event(alloc, words, known)?))
+}
+
 /// A step, where so many frames were transmitted: one of three delivers a frame, mostly one of the
-/// last. Only memory fails it.
+/// last, and of the others one of eight opens an end anew that has closed. Only memory fails it.
 #[tactic(auto, unfolding(crate::specs::Choices::step_at))]
 pub fn random_step(
     alloc: Global,
@@ -170,7 +210,7 @@ pub fn random_step(
 ) -> Result<WorldStep, AllocError>
     ensures { IfOk result (λ step. step
         ≡ spec.step_at known.now.n known.now.objects.items known.now.calls known.now.jobs
-        frames words.old.x) }
+        frames known.now.closed.items words.old.x) }
 {
     let word = words.below(3);
     if word == 0 && frames >= 1 {
@@ -178,6 +218,6 @@ pub fn random_step(
         let behind = words.below(frames_reached(frames, seldom));
         return Ok(WorldStep::Deliver(frames.saturating_sub(behind)));
     }
-    let space = random_space(words, known.n);
-    Ok(WorldStep::Do(space, random_event(alloc, words, known)?))
+    let end = random_closed(words, known.closed.as_slice());
+    random_asking(alloc, words, known, end)
 }

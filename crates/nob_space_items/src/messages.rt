@@ -198,6 +198,8 @@ pub(crate) fn act_on_message(
     ensures err { OnErr result (Keeps parts.old parts.new) }
     ensures here { parts.new.here ≡ parts.old.here }
 {
+    // There are few spaces, and so what was ever asked of all of them can be counted.
+    let _spaces = parts.here.n;
     let session = parts.number(peer);
     let wanted = judge_message(parts, &item)?;
     let dirties = new_dirties(alloc, wanted.as_slice())?;

@@ -1,6 +1,7 @@
-//! A script that goes on whatever it is answered, with a close at one place.
+//! A script that goes on whatever it is answered, with a close at one place, behind which the
+//! session may be opened anew.
 
-ghost use Rattle.std.specs.Prelude.{◌≡◌, false};
+ghost use Rattle.std.specs.Prelude.{◌≡◌, ◌&&◌, not, false};
 
 use crate::script::Move;
 use nob_ids::SpaceId;
@@ -20,26 +21,51 @@ pub struct Cut {
     pub peer: SpaceId,
 }
 
+/// Which ends have opened the session anew.
+#[derive(Clone, Copy)]
+pub struct Opened {
+    /// The one that was closed.
+    pub here: bool,
+    /// The other one.
+    pub there: bool,
+}
+
 /// How far a script has come.
 #[derive(Drop)]
 pub struct Course {
-    /// So many steps were made, the close aside.
+    /// So many steps were made, the close and what comes of it aside.
     pub made: usize,
     /// Whether the close was made, and the session was open before it.
     pub is_cut: bool,
     /// The close, if there is one.
     pub cut: Option<Cut>,
+    /// Whether the session is to be opened anew behind the close.
+    pub opens: bool,
+    /// Where it was.
+    pub opened: Opened,
 }
 
 impl Course {
-    /// A script that hasn't begun, with this close.
-    pub fn new(cut: Option<Cut>) -> Course
-        ensures { result ≡ record { made = 0; is_cut = false; cut = cut } }
+    /// A script that hasn't begun, with this close, behind which the session is to be opened anew
+    /// or not.
+    pub fn new(cut: Option<Cut>, opens: bool) -> Course
+        ensures { result ≡ record {
+          made = 0;
+          is_cut = false;
+          cut = cut;
+          opens = opens;
+          opened = record { here = false; there = false };
+        } }
     {
         Course {
             made: 0,
             is_cut: false,
             cut,
+            opens,
+            opened: Opened {
+                here: false,
+                there: false,
+            },
         }
     }
 
@@ -65,15 +91,40 @@ impl Course {
         if cut.place == self.made {
             let step = WorldStep::Do(cut.space, Event::Close(cut.peer));
             self.is_cut = answer_of(world, &step)?.is_some();
+            return self.open_where_due(world, &cut);
         }
         Ok(())
     }
 
-    // Makes a step of the script, behind the close where this is its place.
+    // Whether an end is to be asked to open the session anew: behind the close, until it has done
+    // so.
+    fn is_to_open(&self, has_opened: bool) -> bool
+        ensures { result ≡ ((self.now.opens && self.now.is_cut) && not has_opened) }
+    {
+        self.opens && self.is_cut && !has_opened
+    }
+
+    // Asks both ends of a close to open the session anew, each as long as it hasn't.
+    fn open_where_due(&mut self, world: &mut World, cut: &Cut) -> Result<(), AllocError> {
+        if self.is_to_open(self.opened.here) {
+            self.opened.here = opens(world, cut.space, cut.peer)?;
+        }
+        if self.is_to_open(self.opened.there) {
+            self.opened.there = opens(world, cut.peer, cut.space)?;
+        }
+        Ok(())
+    }
+
+    // Makes a step of the script, behind the close where this is its place. Then both ends of that
+    // are asked to open the session anew.
     fn make(&mut self, world: &mut World, step: &WorldStep) -> Result<Option<Answer>, AllocError> {
         self.close_where_due(world)?;
         self.made = self.made.saturating_add(1);
-        answer_of(world, step)
+        let answer = answer_of(world, step)?;
+        if let Some(cut) = self.cut {
+            self.open_where_due(world, &cut)?;
+        }
+        Ok(answer)
     }
 
     // Brings what a space has to send to another.
@@ -92,6 +143,12 @@ impl Course {
         }
         Ok(())
     }
+}
+
+// Asks a space to open the session with a peer anew: whether it did.
+fn opens(world: &mut World, space: SpaceId, peer: SpaceId) -> Result<bool, AllocError> {
+    let answer = answer_of(world, &WorldStep::Do(space, Event::Open(peer)))?;
+    Ok(answer.is_some())
 }
 
 // Makes a step: its answer, or none where it is refused, or where there is no space or no frame for

@@ -23,7 +23,7 @@ struct Trial {
     verdict: Verdict,
     // How many objects can't be withdrawn at the end.
     kept: usize,
-    // Whether replies, settlements, cleanings and withdrawals have all come in it.
+    // Whether replies, settlements, cleanings, withdrawals and openings have all come in it.
     is_busy: bool,
 }
 
@@ -51,7 +51,7 @@ pub fn try_lists(rt: &HostRuntime) -> io::Result<()> {
     )?;
     rt.println(text.as_str())?;
     rt.println(if busy > LISTS / 2 {
-        "calls, replies, settlements, cleanings and withdrawals in most of them"
+        "calls, replies, settlements, cleanings, withdrawals and opened sessions in most of them"
     } else {
         "too little happens in them"
     })

@@ -1,19 +1,22 @@
 //! The program `test_closes`: a script of a world, and at each of its places, between each two
-//! spaces, a close that the script knows nothing of. With a word on the command line, lists of random
-//! steps in worlds too.
+//! spaces, a close that the script knows nothing of; and once more with the session opened anew behind
+//! it. With a word on the command line, lists of random steps in worlds too.
 #![tactic(auto)]
 
 mod course;
+mod cuts;
 mod lists;
+mod openings;
 mod script;
 mod verdicts;
 
 use crate::course::{Course, Cut};
+use crate::cuts::cuts_of;
 use crate::lists::try_lists;
+use crate::openings::try_openings;
 use crate::script::{Script, script_of};
 use crate::verdicts::verdict_text;
 use nob_check::judge;
-use nob_ids::SpaceId;
 use nob_model::{Answer, Entry};
 use nob_model_journal::Verdict;
 use nob_rounds::round;
@@ -39,11 +42,9 @@ struct Outcome {
     is_quiet: bool,
 }
 
-// What is said of all runs of a script.
+// What is said of all runs of a script with a close.
 #[derive(Clone, Copy)]
 struct Tally {
-    // How many there are.
-    runs: u64,
     // How many are as they should be.
     right: u64,
     // In how many the session was open before the close.
@@ -90,51 +91,31 @@ fn try_closes(rt: &HostRuntime) -> io::Result<()> {
     let steps = whole.steps;
     let text = format!(in alloc; "{steps} steps")?;
     rt.println(text.as_str())?;
-    let tally = closes_at_all(rt, &script, steps)?;
-    let runs = tally.runs;
+    let cuts = cuts_of(alloc, script.n, steps)?;
+    try_cuts(rt, &script, cuts.as_slice())?;
+    try_openings(rt, &script, cuts.as_slice())
+}
+
+// Makes the runs of a script with each of these closes, and writes which aren't as they should be,
+// and how many are.
+fn try_cuts(rt: &HostRuntime, script: &Script, cuts: &[Cut]) -> io::Result<()> {
+    let mut tally = Tally { right: 0, cut: 0 };
+    for cut in cuts {
+        try_cut(rt, script, cut, &mut tally)?;
+    }
+    let runs = cuts.len();
     let right = tally.right;
     let cut = tally.cut;
-    let text = format!(in alloc;
+    let text = format!(in rt.alloc();
         "{right} of {runs} closes: verdict yes, quiet after {ROUNDS} rounds, each space shut"
     )?;
     rt.println(text.as_str())?;
-    let text = format!(in alloc; "{cut} of them closed a session that was open")?;
+    let text = format!(in rt.alloc(); "{cut} of them closed a session that was open")?;
     rt.println(text.as_str())
-}
-
-// Makes the runs of a script of so many steps with a close, and writes which aren't as they should
-// be.
-fn closes_at_all(rt: &HostRuntime, script: &Script, steps: usize) -> io::Result<Tally> {
-    let mut tally = Tally {
-        runs: 0,
-        right: 0,
-        cut: 0,
-    };
-    for place in 0..=steps {
-        for space in 0..script.n.get() {
-            for peer in 0..script.n.get() {
-                if let Some(cut) = cut_of(place, space, peer) {
-                    try_cut(rt, script, &cut, &mut tally)?;
-                }
-            }
-        }
-    }
-    Ok(tally)
-}
-
-// The close behind so many steps of the session of the spaces at two places, where they are two.
-fn cut_of(place: usize, space: u16, peer: u16) -> Option<Cut> {
-    if space == peer {
-        return None;
-    }
-    let space = SpaceId::new(space.saturating_add(1))?;
-    let peer = SpaceId::new(peer.saturating_add(1))?;
-    Some(Cut { place, space, peer })
 }
 
 // Makes a script with a close, counts it, and writes what isn't as it should be.
 fn try_cut(rt: &HostRuntime, script: &Script, cut: &Cut, tally: &mut Tally) -> io::Result<()> {
-    tally.runs = tally.runs.saturating_add(1);
     let Ok(outcome) = outcome_of(rt.alloc(), script, Some(*cut)) else {
         return rt.println("memory");
     };
@@ -174,7 +155,7 @@ fn outcome_in(
     script: &Script,
     cut: Option<Cut>,
 ) -> Result<Outcome, AllocError> {
-    let mut course = Course::new(cut);
+    let mut course = Course::new(cut, false);
     course.run(world, script.moves.as_slice())?;
     let mut before = 0;
     for _ in 0..ROUNDS {

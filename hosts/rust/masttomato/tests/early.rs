@@ -4,7 +4,7 @@ mod common;
 
 use common::checking::fault_of;
 use masttomato::engine::{Answered, Engine, Life, Session, Settings, Ticket};
-use masttomato::space::{Job, Limits, Outcome, Reference, SpaceId, Status, Trace, Value};
+use masttomato::space::{Job, Limits, Outcome, Reason, Reference, SpaceId, Status, Trace, Value};
 use std::collections::HashMap;
 use std::sync::{Arc, Mutex};
 use std::time::Duration;
@@ -116,6 +116,52 @@ fn what_nobody_acknowledges_is_written_again_at_a_tick() {
     assert_eq!(caller.counts().frames_out, 5 * (1 + ticks));
     carry(&mut caller, &mut owner, now);
     assert_eq!(owner.counts().frames_in, 5);
+}
+
+// What was sent in a session comes after both ends have opened it anew, over another connection: nothing of it is acted
+// on, and its numbers are those of other items now.
+#[test]
+fn what_comes_late_of_an_older_session_is_not_acted_on() {
+    let mut now = Duration::ZERO;
+    let mut scene = Scene::new();
+    let [owner, caller] = &mut scene.engines;
+    call_often(caller, owner, 3);
+    let _turn = caller.turn(now);
+    let late = caller.output(id(1)).left().to_vec();
+    disconnect(owner, caller, now);
+    now += Duration::from_secs(600);
+    let turn = caller.turn(now);
+    let ended =
+        |(_, answered): &(_, Answered)| matches!(answered, Answered::Ended(Reason::RetriesUsedUp));
+    assert!(turn.answers.len() == 3 && turn.answers.iter().all(ended), "{turn:?}");
+    let _turn = owner.turn(now);
+    assert_eq!((owner.open(id(2), now), caller.open(id(1), now)), (Ok(2), Ok(2)));
+    assert_eq!(caller.session(id(1)), Session::Down { since: now });
+    connect(owner, caller, now);
+    assert_eq!(caller.session(id(1)), Session::Open);
+    owner.bytes(id(2), &late, now).expect("what an honest engine sent");
+    assert!(owner.turn(now).jobs.is_empty());
+    for ticket in 11..=12 {
+        caller.call(Ticket(ticket), id(1).agent(), 0, Value::Int(ticket as i64));
+    }
+    let mut served = Vec::new();
+    while caller.counts().calls_answered < 2 {
+        now += Duration::from_millis(1);
+        let _turn = caller.turn(now);
+        carry(caller, owner, now);
+        owner.bytes(id(2), &late, now).expect("what an honest engine sent");
+        for _turn in 0..3 {
+            for job in owner.turn(now).jobs {
+                owner.finish(job.job, Outcome::NoMethod);
+                served.push(job.value);
+            }
+        }
+        carry(owner, caller, now);
+        assert!(now < Duration::from_secs(609), "{served:?}");
+    }
+    assert_eq!(served, [11, 12].map(Value::Int));
+    let _turns = (owner.turn(now), caller.turn(now));
+    assert_eq!(fault_of(&scene.traces()), None);
 }
 
 /// Numbers from a seed.
@@ -230,6 +276,15 @@ impl Scene {
         self.engines[to].bytes(from, &bytes, self.now).expect("what an honest engine sends");
     }
 
+    fn traces(&self) -> Vec<String> {
+        let limits = Limits::new(64, 255).expect("limits");
+        let trace = |(space, lines): (u16, &Arc<Mutex<String>>)| {
+            let lines = lines.lock().expect("no panic");
+            Trace::first_line(id(space), id(2), limits, lines.lines().count() as u64) + &lines
+        };
+        (1..).zip(&self.lines).map(trace).collect()
+    }
+
     fn is_done(&self) -> bool {
         self.way.is_empty()
             && self.answers.len() as u64 == self.made
@@ -277,15 +332,7 @@ fn play(seed: u64) {
             .iter()
             .all(|engine| engine.session(id(3 - engine.id().get())) == Session::Open)
     );
-    let limits = Limits::new(64, 255).expect("limits");
-    let traces: Vec<String> = (1..)
-        .zip(&scene.lines)
-        .map(|(space, lines)| {
-            let lines = lines.lock().expect("no panic");
-            Trace::first_line(id(space), id(2), limits, lines.lines().count() as u64) + &lines
-        })
-        .collect();
-    assert_eq!(fault_of(&traces), None, "seed {seed}");
+    assert_eq!(fault_of(&scene.traces()), None, "seed {seed}");
 }
 
 // Frames that come in any order, and some of them twice: each call is carried out once and answered once,

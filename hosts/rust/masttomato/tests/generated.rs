@@ -6,11 +6,14 @@ mod common;
 use common::nobj;
 use masttomato::space::script::{Opening, Step, World, play};
 use masttomato::space::{Answer, CallNo, Event, JobNo, Limits, Outcome, Reference, SpaceId, Value};
+use std::sync::atomic::{AtomicUsize, Ordering::Relaxed};
 use std::thread;
 
 const SCRIPTS: u64 = 1_000;
 
 const THREADS: u64 = 4;
+
+static OPENED: AtomicUsize = AtomicUsize::new(0);
 
 #[test]
 fn a_thousand_scripts_give_the_same_text() {
@@ -23,7 +26,9 @@ fn a_thousand_scripts_give_the_same_text() {
             .collect();
         threads.into_iter().map(|thread| thread.join().expect("the same text")).sum()
     });
-    println!("{SCRIPTS} scripts of {steps} steps");
+    let opened = OPENED.load(Relaxed);
+    println!("{SCRIPTS} scripts of {steps} steps; {opened} sessions were opened anew");
+    assert!(opened > SCRIPTS as usize / 10, "{opened}");
 }
 
 // How many steps the script of a seed has, which gives the same text by `nobj script`.
@@ -65,6 +70,7 @@ struct Maker {
     objects: Vec<Reference>,
     calls: Vec<(SpaceId, CallNo)>,
     jobs: Vec<(SpaceId, JobNo)>,
+    closed: Vec<(SpaceId, SpaceId)>,
 }
 
 impl Maker {
@@ -79,6 +85,7 @@ impl Maker {
             objects: Vec::new(),
             calls: Vec::new(),
             jobs: Vec::new(),
+            closed: Vec::new(),
         };
         maker.open();
         maker
@@ -115,12 +122,31 @@ impl Maker {
 
     // Keeps what an answer told, for later steps.
     fn learn(&mut self, step: &Step, answer: Answer) {
+        if let Answer::Closed(_) = answer {
+            self.closed.extend(self.ends_of(step));
+        }
         let Step::Do(space, _) = step else { return };
         match answer {
             Answer::Exported(object) => self.objects.push(object),
             Answer::Called(call) => self.calls.push((*space, call)),
             Answer::Job(job) => self.jobs.push((*space, job.job)),
+            Answer::Opened(_) => {
+                OPENED.fetch_add(1, Relaxed);
+            }
             _ => {}
+        }
+    }
+
+    // Whose session with whom a step may have closed.
+    fn ends_of(&self, step: &Step) -> Option<(SpaceId, SpaceId)> {
+        match step {
+            Step::Do(space, Event::Act(peer) | Event::Tick(peer) | Event::Close(peer)) => {
+                Some((*space, *peer))
+            }
+            Step::Deliver(number) => {
+                self.world.frame(*number).map(|frame| (frame.to(), frame.from()))
+            }
+            _ => None,
         }
     }
 
@@ -162,7 +188,7 @@ impl Maker {
     }
 
     fn event(&mut self, space: SpaceId) -> Event {
-        match self.below(32) {
+        match self.below(34) {
             0..=2 => Event::Export,
             3 => Event::Dup(self.reference()),
             4..=6 => Event::Release(self.reference()),
@@ -176,7 +202,8 @@ impl Maker {
             26 => Event::Withdraw(self.reference().index),
             27..=29 => Event::Transmit(self.space()),
             30 => Event::Tick(self.space()),
-            _ if self.below(6) == 0 => Event::Close(self.space()),
+            31 | 32 => Event::Open(self.closed_of(space)),
+            _ if self.below(4) == 0 => Event::Close(self.space()),
             _ => Event::Tick(self.space()),
         }
     }
@@ -207,6 +234,15 @@ impl Maker {
         let own: Vec<CallNo> = of_space(&self.calls, space);
         match own.len() {
             0 => CallNo::new(self.below(4)),
+            _ => *self.one_of(&own),
+        }
+    }
+
+    // A peer with whom a space's session has closed, where there is one.
+    fn closed_of(&mut self, space: SpaceId) -> SpaceId {
+        let own: Vec<SpaceId> = of_space(&self.closed, space);
+        match own.len() {
+            0 => self.space(),
             _ => *self.one_of(&own),
         }
     }

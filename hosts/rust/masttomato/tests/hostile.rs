@@ -4,7 +4,7 @@
 use masttomato::engine::{
     Answered, Engine, LONGEST_BODY, Life, Misbehaved, Session, Settings, Ticket, Turn,
 };
-use masttomato::space::{Outcome, Reason, SpaceId, Status, Value};
+use masttomato::space::{Outcome, Reason, Refusal, SpaceError, SpaceId, Status, Value};
 use std::time::Duration;
 
 const HERE: u16 = 1;
@@ -318,7 +318,31 @@ fn one_that_speaks_of_another_session() {
         scene.send(&other(place, byte)).expect("a frame");
         assert_eq!(scene.read(), 0);
         scene.assert_serves();
+        // Opened anew, the session has the number that was said, however great, and its frames count from then on.
+        let mut number = 1_u32.to_be_bytes();
+        number[place - 28] = byte;
+        let opened = scene.owner.open(id(HOSTILE), scene.now);
+        assert_eq!(opened, Ok(u32::from_be_bytes(number)));
+        let served = scene.served;
+        scene.send(&other(place, byte)).expect("a frame");
+        scene.serve_all();
+        assert_eq!((scene.served, scene.session(HOSTILE)), (served + 1, Session::Open));
     }
+}
+
+// It says the last number that there is: the session opens under that once, and then no more.
+#[test]
+fn one_that_uses_the_numbers_of_sessions_up() {
+    let mut scene = Scene::new();
+    let mut last = frame(HOSTILE, HERE, 1, &call(1, &[0]));
+    last[28..32].copy_from_slice(&u32::MAX.to_be_bytes());
+    scene.send(&record(0, 1, &last)).expect("a frame");
+    assert_eq!(scene.owner.open(id(HOSTILE), scene.now), Ok(u32::MAX));
+    scene.owner.close(id(HOSTILE));
+    let refused = Err(SpaceError::Refused(Refusal::Limit));
+    assert_eq!(scene.owner.open(id(HOSTILE), scene.now), refused);
+    assert_eq!(scene.session(HOSTILE), Session::Closed(Reason::Asked));
+    scene.assert_serves();
 }
 
 // More items in one record than may wait at once: those behind them are kept up to the reach, and there when

@@ -19,6 +19,29 @@ space 1: the session with space 3 closed for reason 3
 space 2: the session with space 3 closed for reason 3
 ";
 
+const REOPENED: &str = "\
+space 2: looked the counter up
+space 2: added 20: 20
+space 3: looked the counter up
+space 3: added 3: 23
+space 2 is cut off from space 1
+space 2: the session with space 1 closed for reason 3
+space 1: the session with space 2 closed for reason 3
+space 3: added 4: 27
+space 2: added nothing: there is no session with space 1
+space 2: opened no session with space 1: S16: a reference to an object of the peer is held, is pinned or waits at this space
+space 2: gave the counter back
+space 2 can reach space 1 again
+space 1: opened session 2 with space 2
+space 2: opened session 2 with space 1
+space 2: looked the counter up
+space 2: added 15: 42
+space 2: gave the counter back
+space 3: gave the counter back
+space 1: the counter has no name any more
+space 1: nobody has the counter any more, and it is dropped
+";
+
 // An example that was built beside this test.
 fn example(name: &str) -> Command {
     let this = std::env::current_exe().expect("this test's program");
@@ -30,10 +53,19 @@ fn example(name: &str) -> Command {
 
 #[test]
 fn a_counter_over_three_processes() {
-    let output = example("counter").stderr(Stdio::inherit()).output().expect("the example");
+    assert_says("counter", COUNTER);
+}
+
+#[test]
+fn a_session_that_is_opened_anew() {
+    assert_says("reopened", REOPENED);
+}
+
+fn assert_says(name: &str, wanted: &str) {
+    let output = example(name).stderr(Stdio::inherit()).output().expect("the example");
     let said = String::from_utf8_lossy(&output.stdout);
     let (played, last) = said.trim_end().rsplit_once('\n').expect("lines");
-    assert_eq!(format!("{played}\n"), COUNTER);
+    assert_eq!(format!("{played}\n"), wanted);
     assert!(matches!(last, "verdict yes" | "not checked: there is no nobj"), "{last}");
     eprintln!("{last}");
     assert!(output.status.success());

@@ -335,6 +335,22 @@ fn an_event_and_its_method_are_one() {
     assert_eq!(text, format!("{first}1 export = exported 1.1\n2 dup 1.1 = ok\n71 settle = S10\n"));
 }
 
+#[test]
+fn a_session_is_opened_anew_and_the_trace_says_so() {
+    let [mut one, _] = spaces();
+    assert_eq!(one.open(id(2)), Err(refused(Refusal::StillOpen)));
+    one.close(id(2)).unwrap();
+    assert_eq!(one.step(&"open 2".parse().unwrap()), Ok(Answer::Opened(2)));
+    assert_eq!(one.open(id(1)), Err(refused(Refusal::NoPeer)));
+    let lines = "1 open 2 = S15\n2 close 2 = closed 1\n3 open 2 = opened 2\n4 open 1 = S1\n";
+    assert_eq!(one.trace().unwrap().lines(), lines);
+    assert!(
+        ["open", "open 0", "open 33", "open 02", "opened 2"]
+            .iter()
+            .all(|text| text.parse::<Event>().is_err())
+    );
+}
+
 // The texts are those of the proved crates.
 #[test]
 fn refusals_have_the_texts_of_the_proved_crates() {

@@ -60,6 +60,7 @@ unsafe extern "C" {
     fn nob_arrive(handle: *mut RawHandle, frame: *const u8, length: usize, told: *mut Told) -> u32;
     fn nob_tick(handle: *mut RawHandle, peer: u16, told: *mut Told) -> u32;
     fn nob_close(handle: *mut RawHandle, peer: u16, told: *mut Told) -> u32;
+    fn nob_open(handle: *mut RawHandle, peer: u16, told: *mut Told) -> u32;
 
     fn nob_push(
         handle: *mut RawHandle,
@@ -221,6 +222,12 @@ impl Handle {
     pub fn close(&mut self, peer: u16) -> Answered {
         // SAFETY: as above; any number may be given.
         self.ask(|handle, told| unsafe { nob_close(handle, peer, told) })
+    }
+
+    /// Open.
+    pub fn open(&mut self, peer: u16) -> Answered {
+        // SAFETY: as above; any number may be given.
+        self.ask(|handle, told| unsafe { nob_open(handle, peer, told) })
     }
 
     /// The next piece of a stream of frames.

@@ -101,6 +101,7 @@ mod compared {
                 20..=22 => self.arrive(frame),
                 _ if number == 1 => both!(pair, tick, peer),
                 _ if number == 2 && outcome == 0 => both!(pair, close, peer),
+                _ if number == 4 => both!(pair, open, peer),
                 _ if number == 3 => {
                     both!(pair, arrive, &frame[..frame.len().min((index % 6) as usize * 17)])
                 }

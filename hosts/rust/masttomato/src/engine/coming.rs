@@ -118,7 +118,7 @@ impl Engine {
                 }
             };
             let Some(link) = self.links.get_mut(peer) else { continue };
-            let is_heard = seen.is_of_this_session();
+            let is_heard = seen.session() == link.number;
             if is_heard {
                 link.acked = link.acked.max(seen.ack());
             }

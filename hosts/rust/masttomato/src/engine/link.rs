@@ -8,6 +8,8 @@ use std::time::Duration;
 
 /// So many numbers from the next on are in a space's reach: it keeps items of these that come early.
 const REACH: u64 = 64;
+/// The number of the session that a space begins in with each peer.
+const FIRST_SESSION: u32 = 1;
 
 /// Bytes that are to be written, and how many of them were.
 ///
@@ -175,8 +177,10 @@ pub(super) struct HeldFinish {
 #[derive(Debug)]
 pub(super) struct Link {
     pub(super) session: Session,
+    /// The number of the session: what is kept below of items is of this one.
+    pub(super) number: u32,
     pub(super) life: Option<Life>,
-    /// Why there never was, and never will be, a connection.
+    /// Why there never was a connection, and won't be one unless the session is opened anew.
     pub(super) refused: Option<Why>,
     pub(super) is_up: bool,
     pub(super) input: Vec<u8>,
@@ -221,6 +225,7 @@ impl Link {
     pub(super) fn new(now: Duration) -> Link {
         Link {
             session: Session::Down { since: now },
+            number: FIRST_SESSION,
             life: None,
             refused: None,
             is_up: false,
@@ -317,6 +322,21 @@ impl Link {
         self.unsettled.clear();
         self.asked.clear();
         self.stuck_until = None;
+    }
+
+    /// The session is open anew, under a number: nothing was given, accepted or acknowledged in it. The connection
+    /// and what is to be written over it stay: what was given before is answered as any frame of an older session.
+    pub(super) fn open(&mut self, number: u32, now: Duration) {
+        self.forget();
+        self.number = number;
+        self.refused = None;
+        (self.given, self.accepted) = (0, 0);
+        (self.calls_acted_on, self.replies_given) = (0, 0);
+        (self.acked, self.acked_at_tick) = (0, 0);
+        (self.blocked_at, self.blocked_since) = (None, None);
+        (self.owed, self.again) = (0, false);
+        (self.down_since, self.next_tick) = (now, now);
+        self.session = if self.is_up { Session::Open } else { Session::Down { since: now } };
     }
 
     /// A frame was given for the first time: it is kept, and a reply that it carries is on its way.

@@ -157,7 +157,7 @@ pub enum Session {
         /// Since when.
         since: Duration,
     },
-    /// It has closed, and stays so.
+    /// It has closed, and stays so until it is opened anew: see [`Node::open`](crate::Node::open).
     Closed(Reason),
     /// There is none, and the last one was refused.
     Refused(Why),
@@ -1026,6 +1026,36 @@ impl Engine {
         if let Ok(reason) = self.space.close(peer) {
             self.closed(peer, reason);
         }
+    }
+
+    /// Opens the session with a peer anew, which has closed here: its number. The peer's program opens it as well; until
+    /// it has, what is sent to it is given again and again, as long as for a peer that doesn't acknowledge anything.
+    ///
+    /// ```
+    /// # use masttomato::engine::*;
+    /// # use masttomato::space::{Refusal, SpaceError};
+    /// # use masttomato::{SpaceId, Value};
+    /// # use std::time::Duration;
+    /// # let [one, two] = [1, 2].map(|number| SpaceId::new(number).expect("1 to 32"));
+    /// # let now = Duration::ZERO;
+    /// # let mut engine = Engine::new(Settings::new(one, two), now)?;
+    /// assert_eq!(engine.open(two, now), Err(SpaceError::Refused(Refusal::StillOpen)));
+    /// engine.close(two);
+    /// assert_eq!(engine.open(two, now)?, 2);
+    /// assert_eq!(engine.session(two), Session::Down { since: now });
+    /// # Ok::<(), Box<dyn std::error::Error>>(())
+    /// ```
+    ///
+    /// # Errors
+    /// As of [`Space::open`]: where there is no such peer, the session is open, or something of the peer's is still held
+    /// here. That may be what a call carries which another peer hasn't settled: so it may go later.
+    pub fn open(&mut self, peer: SpaceId, now: Duration) -> Result<u32, SpaceError> {
+        let number = self.space.open(peer)?;
+        if let Some(link) = self.links.get_mut(peer) {
+            link.open(number, now);
+            self.turn.changes.push((peer, link.session));
+        }
+        Ok(number)
     }
 
     /// Closes all sessions, and says bye over each connection once what is due was written.

@@ -20,8 +20,6 @@ pub const HELLO: usize = 64;
 pub(crate) const HEAD: usize = 16;
 /// The header of a frame.
 const FRAME_HEADER: usize = 32;
-/// The number of the session in which all ends are: none opens a session that closed again yet.
-pub(crate) const SESSION: u32 = 1;
 /// The longest body: as many frames as a peer may have to acknowledge, each as long as one can be.
 ///
 /// ```
@@ -325,9 +323,10 @@ impl Seen<'_> {
         self.bytes[2] == 1
     }
 
-    /// Whether its sender's end was in the session in which all ends are.
-    pub(crate) fn is_of_this_session(&self) -> bool {
-        self.bytes[28..FRAME_HEADER] == SESSION.to_be_bytes()
+    /// The number of the session that its sender's end was in.
+    pub(crate) fn session(&self) -> u32 {
+        let bytes = self.bytes[28..FRAME_HEADER].first_chunk();
+        bytes.map_or(0, |bytes| u32::from_be_bytes(*bytes))
     }
 
     pub(crate) fn seq(&self) -> u64 {
@@ -386,6 +385,7 @@ mod tests {
         assert_eq!(check_frames(&two, id(2), id(1)), Ok(()));
         assert_eq!(check_frames(&[], id(2), id(1)), Ok(()));
         assert_eq!(frames_of(&two).map(|seen| seen.bytes.len()).collect::<Vec<_>>(), [41, 41]);
+        assert_eq!(frames_of(&two).map(|seen| seen.session()).collect::<Vec<_>>(), [1, 1]);
     }
 
     #[test]

@@ -200,6 +200,9 @@ pub(crate) struct Core {
     watchers: Vec<mpsc::Sender<(SpaceId, Session)>>,
     running: usize,
     pub(crate) silent: Vec<SpaceId>,
+    /// Peers whose sessions were opened anew: they are connected to at once.
+    pub(crate) opened: Vec<SpaceId>,
+    started: Instant,
     pub(crate) stops_at: Option<Instant>,
     wakers: Vec<Waker>,
     withdrawn: Vec<Box<dyn Exported>>,
@@ -211,6 +214,7 @@ impl Core {
         shared: Arc<Shared>,
         pool: Option<Arc<Pool>>,
         spawner: Option<Arc<dyn Spawn>>,
+        started: Instant,
     ) -> Core {
         Core {
             engine,
@@ -225,6 +229,8 @@ impl Core {
             watchers: Vec::new(),
             running: 0,
             silent: Vec::new(),
+            opened: Vec::new(),
+            started,
             stops_at: None,
             wakers: Vec::new(),
             withdrawn: Vec::new(),
@@ -286,6 +292,12 @@ impl Core {
 
     pub(crate) fn unbind(&mut self, name: &str) -> bool {
         self.names.remove(name.as_bytes()).is_some()
+    }
+
+    pub(crate) fn open(&mut self, peer: SpaceId) -> Result<u32, NodeError> {
+        let number = self.engine.open(peer, self.started.elapsed()).map_err(NodeError::Space)?;
+        self.opened.push(peer);
+        Ok(number)
     }
 
     pub(crate) fn watch(&mut self) -> Changes {

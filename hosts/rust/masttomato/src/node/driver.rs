@@ -81,6 +81,9 @@ impl Driver {
     pub(crate) fn turn(&self) -> bool {
         let now = self.now();
         self.take_commands();
+        for peer in std::mem::take(&mut self.core.borrow_mut().opened) {
+            self.net.borrow_mut().dial_soon(peer, now);
+        }
         self.net.borrow_mut().read(&mut self.core.borrow_mut().engine, now);
         loop {
             self.core.borrow_mut().work(now);

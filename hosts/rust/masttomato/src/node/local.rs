@@ -194,6 +194,38 @@ impl LocalNode {
         self.driver.ask(|core| core.engine.session(peer))
     }
 
+    /// Closes the session with a peer, as [`Node::close`](super::Node::close).
+    ///
+    /// ```
+    /// # use masttomato::*;
+    /// # let [one, two] = [1, 2].map(|number| SpaceId::new(number).expect("1 to 32"));
+    /// # let node = Node::builder(one, Peers::none()).spaces(two).start_local()?;
+    /// node.close(two);
+    /// assert_eq!(node.session(two), Session::Closed(Reason::Asked));
+    /// # Ok::<(), Box<dyn std::error::Error>>(())
+    /// ```
+    pub fn close(&self, peer: SpaceId) {
+        super::close(&self.shared, peer);
+    }
+
+    /// Opens the session with a peer anew, as [`Node::open`](super::Node::open).
+    ///
+    /// ```
+    /// # use masttomato::*;
+    /// # let [one, two] = [1, 2].map(|number| SpaceId::new(number).expect("1 to 32"));
+    /// # let node = Node::builder(one, Peers::none()).spaces(two).start_local()?;
+    /// assert!(node.open(two).is_err());                       // it is open
+    /// node.close(two);
+    /// assert_eq!(node.open(two)?, 2);
+    /// # Ok::<(), Box<dyn std::error::Error>>(())
+    /// ```
+    ///
+    /// # Errors
+    /// As [`Node::open`](super::Node::open).
+    pub fn open(&self, peer: SpaceId) -> Result<u32, NodeError> {
+        super::open(&self.shared, peer)
+    }
+
     /// How sessions change from now on.
     ///
     /// ```

@@ -78,7 +78,7 @@ pub enum Run {
 pub enum NodeError {
     /// The addresses aren't this machine's own, and without TLS `Builder::insecure` must allow that.
     Insecure,
-    /// There is no memory for the space, or its number is above the last one.
+    /// There is no memory for the space, or it refuses what it was asked.
     Space(SpaceError),
     /// The number of spaces, or the node's own number, doesn't fit the others.
     OtherSpaces,
@@ -399,6 +399,14 @@ fn bind<I: ?Sized>(shared: &Arc<Shared>, name: &str, object: &Remote<I>) -> Resu
 fn unbind(shared: &Arc<Shared>, name: &str) -> bool {
     let name = name.to_string();
     ask(shared, move |core| core.unbind(&name)).unwrap_or(false)
+}
+
+fn open(shared: &Arc<Shared>, peer: SpaceId) -> Result<u32, NodeError> {
+    ask(shared, move |core| core.open(peer))?
+}
+
+fn close(shared: &Arc<Shared>, peer: SpaceId) {
+    let _asked = ask(shared, move |core| core.engine.close(peer));
 }
 
 fn lookup<I: Interface + ?Sized>(
@@ -757,7 +765,7 @@ impl Parts {
         if let Some(sink) = self.sink {
             engine.record(sink);
         }
-        let core = Core::new(engine, self.shared.clone(), pool, self.spawner);
+        let core = Core::new(engine, self.shared.clone(), pool, self.spawner, started);
         Ok(Driver::new(core, self.net, self.shared, started))
     }
 }
@@ -1066,7 +1074,8 @@ impl Node {
         ask(&self.inner.shared, Core::watch)
     }
 
-    /// Closes the session with a peer, for good: what either has of the other is lost.
+    /// Closes the session with a peer: what either has of the other is lost. It stays closed until it is
+    /// [opened](Node::open) anew.
     ///
     /// ```
     /// # use masttomato::{Node, Peers, Reason, Session, SpaceId};
@@ -1080,7 +1089,47 @@ impl Node {
     /// # }
     /// ```
     pub fn close(&self, peer: SpaceId) {
-        let _asked = ask(&self.inner.shared, move |core| core.engine.close(peer));
+        close(&self.inner.shared, peer);
+    }
+
+    /// Opens the session with a peer anew, which has closed here: its number. A node never does so by itself, since
+    /// its program knows what it had of the peer. That is lost: give it back (drop each [`Remote`] of the peer's
+    /// objects, remove their names), open, and look up again.
+    ///
+    /// The peer's program opens the session as well, where it has closed there; what is sent before waits for
+    /// that. Where it is open there, it closes with the first frame of the new one. Either end may be the first, and
+    /// they are connected again if they aren't.
+    ///
+    /// ```
+    /// # use masttomato::*;
+    /// # #[interface]
+    /// # pub trait Bell { fn ring(&mut self) -> String; }
+    /// # struct Brass;
+    /// # impl Bell for Brass { fn ring(&mut self) -> String { "ding".into() } }
+    /// # let [one, two] = [1, 2].map(|number| SpaceId::new(number).expect("1 to 32"));
+    /// # let owner = Node::builder(one, Peers::none()).listen("127.0.0.1:0").spaces(two).start()?;
+    /// # owner.bind("bell", &owner.export::<dyn Bell>(Box::new(Brass))?)?;
+    /// # let peers = Peers::none().with(one, owner.address().ok_or("it listens")?);
+    /// # let node = Node::builder(two, peers).give_up_after(std::time::Duration::from_secs(60)).start()?;
+    /// let mut changes = owner.changes()?;
+    /// let bell: Remote<dyn Bell> = node.lookup(one, "bell").wait()?;
+    /// node.close(one);
+    /// assert!(node.open(one).is_err());                       // the bell that was lost is still held
+    /// drop(bell);
+    /// assert_eq!(node.open(one)?, 2);
+    /// let bell = node.lookup::<dyn Bell>(one, "bell");
+    /// assert!(changes.any(|(_, session)| session == Session::Closed(Reason::PeerClosed)));
+    /// assert_eq!(owner.open(two)?, 2);
+    /// assert_eq!(bell.wait()?.ring().wait()?, "ding");
+    /// # Ok::<(), Box<dyn std::error::Error>>(())
+    /// ```
+    ///
+    /// # Errors
+    /// The space's refusal: where the session is open, or something of the peer's is still held here. That may be what
+    /// a call carries which a third node hasn't taken yet, or an argument of a method that runs: so it may go later.
+    /// Or the node has stopped.
+    pub fn open(&self, peer: SpaceId) -> Result<u32, NodeError> {
+        open(&self.inner.shared, peer)
     }
 
     /// What was counted; nothing where the node has stopped.

@@ -229,6 +229,13 @@ impl Net {
         }
     }
 
+    /// The next try to connect to a peer doesn't wait.
+    pub(crate) fn dial_soon(&mut self, peer: SpaceId, now: Duration) {
+        for dial in self.dials.iter_mut().filter(|dial| dial.line.has(peer)) {
+            (dial.at, dial.wait) = (now, FIRST_WAIT);
+        }
+    }
+
     // A try failed or a connection broke: the next try waits, longer each time.
     fn wait_to_dial(&mut self, place: usize, now: Duration) {
         self.jitter ^= self.jitter << 13;

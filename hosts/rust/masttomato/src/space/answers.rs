@@ -95,7 +95,7 @@ pub enum CallResult {
 pub enum ReplyFate {
     /// It is handed on.
     HandedOn,
-    /// The session with the client has closed, and there is none.
+    /// The session that the call came in has closed, opened again or not, and there is none.
     Dropped,
 }
 

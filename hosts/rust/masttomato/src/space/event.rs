@@ -71,6 +71,8 @@ pub enum Event {
     Tick(SpaceId),
     /// Closes the session with a peer.
     Close(SpaceId),
+    /// Opens the session with a peer anew, which has closed here.
+    Open(SpaceId),
 }
 
 /// A call that its owner is to carry out: see [`Space::claim`](super::Space::claim).
@@ -138,7 +140,7 @@ pub enum Answer {
     Job(Job),
     /// Of Finish: the reply is handed on.
     Finished,
-    /// Of Finish: the session with the client has closed, and there is no reply.
+    /// Of Finish: the session that the call came in has closed, opened again or not, and there is no reply.
     Dropped,
     /// Of Act: the number of the item.
     Acted(ItemNo),
@@ -154,6 +156,8 @@ pub enum Answer {
     Frames(Frames),
     /// Of Arrive: so many items were accepted.
     Took(u64),
+    /// Of Open: the number of the session.
+    Opened(u32),
 }
 
 impl fmt::Display for Outcome {
@@ -184,6 +188,7 @@ impl fmt::Display for Event {
             Event::Arrive(frame) => write!(f, "arrive {frame}"),
             Event::Tick(peer) => write!(f, "tick {peer}"),
             Event::Close(peer) => write!(f, "close {peer}"),
+            Event::Open(peer) => write!(f, "open {peer}"),
         }
     }
 }
@@ -217,6 +222,7 @@ impl fmt::Display for Answer {
                 frames.iter().try_for_each(|frame| write!(f, " {frame}"))
             }
             Answer::Took(count) => write!(f, "took {count}"),
+            Answer::Opened(number) => write!(f, "opened {number}"),
         }
     }
 }

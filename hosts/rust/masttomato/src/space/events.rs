@@ -583,8 +583,8 @@ impl Space {
         self.noted(result, || Event::Claim, Answer::Job)
     }
 
-    /// A job's outcome goes to its client, or is dropped where the session with the client has
-    /// closed; what the job had on loan is given back.
+    /// A job's outcome goes to its client, or is dropped where the session that its call came in has
+    /// closed, opened again or not; what the job had on loan is given back.
     ///
     /// ```
     /// # use masttomato::space::*;
@@ -990,6 +990,36 @@ impl Space {
         self.noted(result, || Event::Close(peer), Answer::Closed)
     }
 
+    /// Opens the session with a peer anew, which has closed here: its number, which is above the one before and
+    /// not below any in a frame of the peer's. Nothing of the sessions before is acted on from then on.
+    ///
+    /// Either end opens for itself, and they are in one session once they are under one number. A frame of a later
+    /// number closes an end that is open, and from then on it can be opened under that.
+    ///
+    /// ```
+    /// # use masttomato::space::*;
+    /// # let [one, two] = [1, 2].map(|number| SpaceId::new(number).expect("1 to 32"));
+    /// # let mut first = Space::new(one, two, Limits::default())?;
+    /// # let mut second = Space::new(two, two, Limits::default())?;
+    /// first.close(two)?;
+    /// assert_eq!(first.open(two)?, 2);
+    /// first.call(two.agent(), 0, &Value::Unit)?;
+    /// let call = first.transmit(two)?.iter().next().expect("a call");
+    /// assert_eq!(second.arrive(&call)?, Arrived::Closed(Reason::PeerClosed));
+    /// assert_eq!(second.open(one)?, 2);
+    /// assert_eq!(second.arrive(&call)?, Arrived::Took(1));              // it is given again until it is taken
+    /// # Ok::<(), SpaceError>(())
+    /// ```
+    ///
+    /// # Errors
+    /// NoPeer where there is no such peer, StillOpen where the session is open here, StillHeld while a reference to
+    /// an object of the peer's is held here (in the hand, or on loan to a message or a job), is pinned here or
+    /// stands in a message that waits here, Limit where no number is left.
+    pub fn open(&mut self, peer: SpaceId) -> Result<u32, SpaceError> {
+        let result = told(self.handle.open(peer.get())).map(number_of_session);
+        self.noted(result, || Event::Open(peer), Answer::Opened)
+    }
+
     /// One event, by its own method.
     ///
     /// ```
@@ -1027,6 +1057,7 @@ impl Space {
             Event::Arrive(frame) => self.arrive(frame).map(Answer::from),
             Event::Tick(peer) => self.tick(*peer).map(ticked),
             Event::Close(peer) => self.close(*peer).map(Answer::Closed),
+            Event::Open(peer) => self.open(*peer).map(Answer::Opened),
         }
     }
 
@@ -1214,6 +1245,7 @@ fn error_of(status: u32) -> SpaceError {
         1..=10 => status - 1,
         111..=114 => status - 101,
         12..=13 => status + 2,
+        15..=16 => status + 1,
         14 => return SpaceError::OutOfMemory,
         _ => unknown("status", status),
     };
@@ -1243,6 +1275,13 @@ fn reason_of(told: Told) -> Reason {
         .ok()
         .and_then(Reason::from_number)
         .unwrap_or_else(|| unknown("reason", told.kind))
+}
+
+fn number_of_session(told: Told) -> u32 {
+    match u32::try_from(told.number) {
+        Ok(number) if told.kind == 17 => number,
+        _ => unknown("kind", told.kind),
+    }
 }
 
 fn status_of(told: Told) -> Status {

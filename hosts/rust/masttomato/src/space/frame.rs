@@ -286,8 +286,8 @@ impl Frame {
         self.space_at(6)
     }
 
-    /// The number of the session that its sender's end was in. As spaces don't open a closed session again
-    /// yet, it is 1 in each frame that a space gives.
+    /// The number of the session that its sender's end was in: 1 until that space [opened](super::Space::open) it
+    /// anew.
     ///
     /// ```
     /// # use masttomato::space::*;

@@ -95,6 +95,7 @@ fn event_of(text: &str) -> Option<Event> {
         ("send", Some(rest)) => space_of(rest).map(Event::Transmit),
         ("tick", Some(rest)) => space_of(rest).map(Event::Tick),
         ("close", Some(rest)) => space_of(rest).map(Event::Close),
+        ("open", Some(rest)) => space_of(rest).map(Event::Open),
         ("withdraw", Some(rest)) => number_of(rest).map(Event::Withdraw),
         _ => None,
     }

@@ -64,6 +64,10 @@ pub enum Refusal {
     NoJob,
     /// S13: a limit is reached.
     Limit,
+    /// S15: the session is open at this space.
+    StillOpen,
+    /// S16: a reference to an object of the peer is held, is pinned or waits at this space.
+    StillHeld,
 }
 
 impl Refusal {
@@ -71,9 +75,9 @@ impl Refusal {
     ///
     /// ```
     /// # use masttomato::space::*;
-    /// assert_eq!((Refusal::ALL[0].name(), Refusal::ALL[15].name()), ("S1", "S13"));
+    /// assert_eq!((Refusal::ALL[0].name(), Refusal::ALL[17].name()), ("S1", "S16"));
     /// ```
-    pub const ALL: [Refusal; 16] = [
+    pub const ALL: [Refusal; 18] = [
         Refusal::NoPeer,
         Refusal::Closed,
         Refusal::NoObject,
@@ -90,6 +94,8 @@ impl Refusal {
         Refusal::StillUsed(Use::Agent),
         Refusal::NoJob,
         Refusal::Limit,
+        Refusal::StillOpen,
+        Refusal::StillHeld,
     ];
 
     /// The refusal's name, as scripts and traces have it: `S1`, .., `S11(3)`, ..
@@ -123,6 +129,11 @@ impl Refusal {
             Refusal::StillUsed(Use::Agent) => ("S11(4)", "it is the agent"),
             Refusal::NoJob => ("S12", "the job isn't running"),
             Refusal::Limit => ("S13", "a limit is reached"),
+            Refusal::StillOpen => ("S15", "the session is open at this space"),
+            Refusal::StillHeld => (
+                "S16",
+                "a reference to an object of the peer is held, is pinned or waits at this space",
+            ),
         }
     }
 }

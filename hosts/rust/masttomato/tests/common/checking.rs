@@ -62,12 +62,13 @@ pub fn replay_fault(trace: &str) -> Option<String> {
     }
 }
 
-// The same trace with frames of version 2.
+// The same trace with frames of version 2. One of version 1 has no `open`.
 fn of_version_2(trace: &str) -> String {
     let Some(rest) = trace.strip_prefix("trace ") else { return trace.into() };
     let mut text = String::from("trace2 ");
     for line in rest.split_inclusive('\n') {
         let (event, result) = line.split_once(" = ").unwrap_or((line, ""));
+        assert!(!event.contains(" open "), "no entry of version 1: {line}");
         let has_frames = result.starts_with("frames ") || event.contains(" arrive ");
         match has_frames {
             true => text.extend(line.split_inclusive([' ', '\n']).map(frame_of_version_2)),

@@ -10,8 +10,8 @@ mod things;
 use common::checking::fault_of;
 use common::nobj;
 use masttomato::engine::{Answered, HELLO, Why};
-use masttomato::space::{Limits, Outcome, Reference, Status, Trace, Value};
-use masttomato::{CallError, Fault, Node, Peers, Reason, Remote, Run, Session};
+use masttomato::space::{Limits, Outcome, Reference, Refusal, SpaceError, Status, Trace, Value};
+use masttomato::{CallError, Fault, Node, NodeError, Peers, Reason, Remote, Run, Session};
 use plain::Plain;
 use proxy::Proxy;
 use std::future::Future;
@@ -404,6 +404,76 @@ fn a_peer_that_stays_away_is_given_up_at_both_ends() {
     eventually("the owner gives it up too", || matches!(one.session(id(2)), Session::Closed(_)));
     eventually("what it held is given up", || alive.load(SeqCst) == 0);
     assert_eq!(one.counts().withdrawn, 1);
+}
+
+fn is_closed(node: &Node, peer: u16) -> bool {
+    matches!(node.session(id(peer)), Session::Closed(_))
+}
+
+fn refusal(opened: Result<u32, NodeError>) -> Refusal {
+    match opened {
+        Err(NodeError::Space(SpaceError::Refused(refusal))) => refusal,
+        other => panic!("{other:?}"),
+    }
+}
+
+// What was lost hinders until it is given back; then both ends open the session anew, they are connected again,
+// and the object is looked up again. It was never given up by its owner, which has its name.
+#[test]
+fn a_session_that_was_given_up_is_opened_anew() {
+    let (one, two, proxy, counter, alive) = through_a_proxy(Duration::from_secs(3));
+    assert_eq!(counter.add(20).wait(), Ok(20));
+    proxy.close();
+    let lost = counter.add(1).wait_for(SOON);
+    assert_eq!(lost, Err(CallError::Ended(Reason::RetriesUsedUp)));
+    eventually("the owner gives it up too", || is_closed(&one, 2));
+    two.bind("far", &counter).expect("a name");
+    assert_eq!(refusal(two.open(id(1))), Refusal::StillHeld);
+    drop(counter);
+    assert_eq!(refusal(two.open(id(1))), Refusal::StillHeld);
+    assert!(two.unbind("far"));
+    proxy.open();
+    assert_eq!((one.open(id(2)).expect("closed"), two.open(id(1)).expect("nothing held")), (2, 2));
+    assert_eq!(refusal(two.open(id(1))), Refusal::StillOpen);
+    assert_eq!(refusal(two.open(id(2))), Refusal::NoPeer);
+    let counter: Remote<dyn Counter> = two.lookup(id(1), "counter").wait().expect("a counter");
+    assert_eq!(counter.add(22).wait(), Ok(42));
+    assert!(one.session(id(2)) == Session::Open && two.session(id(1)) == Session::Open);
+    one.unbind("counter");
+    drop(counter);
+    eventually("the object is dropped", || alive.load(SeqCst) == 0);
+}
+
+// Each closes and opens, again and again: they have the same number.
+#[test]
+fn each_of_two_nodes_closes_its_session_and_opens_it() {
+    let (one, two, counter, _alive) = pair();
+    drop(counter);
+    for number in 2..=5 {
+        one.close(id(2));
+        two.close(id(1));
+        assert_eq!(one.open(id(2)).expect("nothing of space 2's is held"), number);
+        assert_eq!(two.open(id(1)).expect("nothing of space 1's is held"), number);
+        let counter: Remote<dyn Counter> = two.lookup(id(1), "counter").wait().expect("its name");
+        assert_eq!(counter.add(1).wait(), Ok(i64::from(number) - 1));
+    }
+}
+
+// Where the other end is open it closes with the first frame of the new session, and what is sent waits until its
+// program opens it as well.
+#[test]
+fn one_end_opens_a_session_and_the_other_hears_of_it() {
+    let (one, two, counter, _alive) = pair();
+    drop(counter);
+    two.close(id(1));
+    assert_eq!(two.open(id(1)).expect("nothing is held"), 2);
+    let found = two.lookup::<dyn Counter>(id(1), "counter");
+    eventually("the owner hears of it", || is_closed(&one, 2));
+    assert_eq!(one.session(id(2)), Session::Closed(Reason::PeerClosed));
+    assert_eq!(one.open(id(2)).expect("nothing is held"), 2);
+    assert_eq!(found.wait().expect("a counter").add(1).wait(), Ok(1));
+    one.stop();
+    eventually("it stops", || matches!(one.open(id(2)), Err(NodeError::Stopped)));
 }
 
 #[test]

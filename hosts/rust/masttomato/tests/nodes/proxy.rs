@@ -74,6 +74,11 @@ impl Proxy {
         self.cut();
     }
 
+    /// Lets everybody through again.
+    pub fn open(&self) {
+        self.is_closed.store(false, SeqCst);
+    }
+
     pub fn stall(&self, stalls: bool) {
         self.stalls.store(stalls, SeqCst);
     }

@@ -24,11 +24,13 @@ pub enum Kind {
     Break,
     /// Two nodes are connected.
     Connect,
+    /// A node, or both of two, open the session that has closed there anew, after they gave back what is lost.
+    Open,
     /// A node's clock goes on: a little, or by hours.
     Pass,
 }
 
-const KINDS: [(Kind, &str, u64); 10] = [
+const KINDS: [(Kind, &str, u64); 11] = [
     (Kind::Export, "export", 4),
     (Kind::Call, "call", 14),
     (Kind::Drop, "drop", 8),
@@ -38,6 +40,7 @@ const KINDS: [(Kind, &str, u64); 10] = [
     (Kind::Carry, "carry", 26),
     (Kind::Break, "break", 3),
     (Kind::Connect, "connect", 5),
+    (Kind::Open, "open", 4),
     (Kind::Pass, "pass", 6),
 ];
 

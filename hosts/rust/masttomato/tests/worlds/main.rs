@@ -35,8 +35,7 @@ fn fails(script: &Script, play: impl Fn(&Script)) -> bool {
 
 #[test]
 fn ten_thousand_worlds_keep_their_promises() {
-    let (closed, replies, objects, checked) =
-        (AtomicU64::new(0), AtomicU64::new(0), AtomicU64::new(0), AtomicU64::new(0));
+    let [closed, replies, objects, checked, opened] = [const { AtomicU64::new(0) }; 5];
     let run = |seed: u64| {
         let script = Script::of_seed(seed);
         let played = catch_unwind(|| play(&script));
@@ -48,6 +47,7 @@ fn ten_thousand_worlds_keep_their_promises() {
         closed.fetch_add(any_closed.into(), Relaxed);
         replies.fetch_add(replied.into(), Relaxed);
         objects.fetch_add(exported, Relaxed);
+        opened.fetch_add(world.opened(), Relaxed);
         if seed.is_multiple_of(CHECKED)
             && let Some(said) = nobj("check", world.traces().concat().as_bytes())
         {
@@ -61,13 +61,14 @@ fn ten_thousand_worlds_keep_their_promises() {
             scope.spawn(move || (first..=RUNS).step_by(THREADS as usize).for_each(run));
         }
     });
-    let [closed, replies, objects, checked] =
-        [closed, replies, objects, checked].map(AtomicU64::into_inner);
+    let [closed, replies, objects, checked, opened] =
+        [closed, replies, objects, checked, opened].map(AtomicU64::into_inner);
     println!(
-        "{RUNS} worlds: {replies} replies, {objects} objects, all withdrawn; sessions closed in {closed}; \
-         nobj checked {checked}"
+        "{RUNS} worlds: {replies} replies, {objects} objects, all withdrawn; sessions closed in {closed}, \
+         {opened} pairs opened theirs anew; nobj checked {checked}"
     );
     assert!(replies > 5 * RUNS && closed > RUNS / 50 && closed < RUNS / 2);
+    assert!(opened > RUNS / 50, "{opened}");
 }
 
 // What wanted memory is tried again, and nothing is lost. The library wants none where there is some, so this

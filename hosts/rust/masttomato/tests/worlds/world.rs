@@ -8,7 +8,7 @@ use masttomato::space::{
     Job, Limits, Outcome, Reference, SpaceError, SpaceId, Status, Trace, Value,
 };
 use masttomato_sys::stand_in::want_memory;
-use std::collections::HashMap;
+use std::collections::{BTreeSet, HashMap};
 use std::sync::{Arc, Mutex};
 use std::time::Duration;
 
@@ -37,6 +37,8 @@ pub struct World {
     net: Net,
     calls: HashMap<u64, Fate>,
     made: u64,
+    // Pairs of whom one opened the session anew.
+    opened: BTreeSet<(usize, usize)>,
     spoils: bool,
 }
 
@@ -72,8 +74,8 @@ impl World {
             Node { engine, now, hands, jobs, exported: 0, withdrawn: 0, lines }
         };
         let nodes = (0..count).map(node).collect();
-        let mut world =
-            World { nodes, net: Net::default(), calls: HashMap::new(), made: 0, spoils: false };
+        let (net, calls, opened) = (Net::default(), HashMap::new(), BTreeSet::new());
+        let mut world = World { nodes, net, calls, made: 0, opened, spoils: false };
         for one in 0..count {
             (0..one).for_each(|other| world.connect(one, other));
         }
@@ -107,6 +109,7 @@ impl World {
             Kind::Carry => self.carry(one, other, 1 + how % 400),
             Kind::Break => self.break_off(one, other, how % 2 == 0),
             Kind::Connect => self.connect(one, other),
+            Kind::Open => self.open(one, other, how % 3 > 0),
             Kind::Pass => self.pass(one, how),
         }
     }
@@ -262,6 +265,33 @@ impl World {
         }
     }
 
+    // What a node has of one with whom its session has closed is lost: it is given back before.
+    fn open(&mut self, one: usize, other: usize, both: bool) {
+        for (here, there) in [(one, other), (other, one)].into_iter().take(1 + usize::from(both)) {
+            let node = &mut self.nodes[here];
+            if !matches!(node.engine.session(space(there)), Session::Closed(_)) {
+                continue;
+            }
+            let is_lost = |reference: &Reference| reference.owner == space(there);
+            let (lost, kept) = node.hands.drain(..).partition(is_lost);
+            node.hands = kept;
+            let lost: Vec<Reference> = lost;
+            lost.into_iter().for_each(|reference| node.engine.release(reference));
+            if node.engine.open(space(there), node.now).is_ok() {
+                self.opened.insert((here.min(there), here.max(there)));
+            }
+        }
+    }
+
+    // Ends in different sessions may stay so, where neither has anything to say: so both are closed.
+    fn close_opened(&mut self) {
+        for (one, other) in self.opened.clone() {
+            for (here, there) in [(one, other), (other, one)] {
+                self.nodes[here].engine.close(space(there));
+            }
+        }
+    }
+
     fn pass(&mut self, one: usize, how: usize) {
         self.nodes[one].now += match how % 12 {
             0 => Duration::from_secs(3_600 * (how as u64 % 5)),
@@ -277,6 +307,9 @@ impl World {
         for round in 0..4_000 {
             if round == 40 {
                 want_memory(0, 0);
+            }
+            if round == 400 {
+                self.close_opened();
             }
             for one in 0..count {
                 (0..one).for_each(|other| self.connect(one, other));
@@ -356,6 +389,11 @@ impl World {
     /// How often memory or room was wanted.
     pub fn wants(&self) -> u64 {
         self.nodes.iter().map(|node| node.engine.counts().wants).sum()
+    }
+
+    /// How many pairs of nodes were in more than one session.
+    pub fn opened(&self) -> u64 {
+        self.opened.len() as u64
     }
 
     /// Whether any session has closed, and how many calls were replied to.

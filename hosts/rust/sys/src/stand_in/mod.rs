@@ -396,6 +396,21 @@ impl Handle {
         in_range(peer, || self.space.asked_to_close(peer))
     }
 
+    /// Open.
+    ///
+    /// ```
+    /// # use masttomato_sys::stand_in::Handle;
+    /// # let mut handle = Handle::new(1, 2, 8, 16)?;
+    /// assert_eq!(handle.open(2).0, 15);
+    /// handle.close(2);
+    /// let (status, told) = handle.open(2);
+    /// assert_eq!((status, told.kind, told.number), (0, 17, 2));
+    /// # Ok::<(), u32>(())
+    /// ```
+    pub fn open(&mut self, peer: u16) -> Answered {
+        in_range(peer, || self.space.open(peer))
+    }
+
     /// The next piece of a stream of frames.
     ///
     /// ```

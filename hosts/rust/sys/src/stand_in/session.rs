@@ -14,6 +14,8 @@ const MOST_WAITING: usize = 256;
 const REACH: usize = 64;
 /// The number of the session that a new end is in.
 const FIRST_SESSION: u32 = 1;
+/// The greatest number of a session.
+const LAST_SESSION: u32 = u32::MAX;
 
 /// An end of a session: what it sent, what it accepted, and whether it has closed.
 #[derive(Debug)]
@@ -22,6 +24,8 @@ pub(super) struct Session {
     peer: u16,
     // The session's number, which stands in each frame that it gives.
     number: u32,
+    // The greatest number in a frame that came, 0 where none did.
+    seen: u32,
     window: u64,
     retry: u64,
     // Unacknowledged payloads; the first has the number `lowest`.
@@ -50,6 +54,7 @@ impl Session {
             here,
             peer,
             number: FIRST_SESSION,
+            seen: 0,
             window,
             retry,
             out: VecDeque::new(),
@@ -67,6 +72,21 @@ impl Session {
 
     pub(super) fn is_open(&self) -> bool {
         self.closed.is_none()
+    }
+
+    pub(super) fn number(&self) -> u32 {
+        self.number
+    }
+
+    /// The number that the session would be opened under: above its own, and none below what came.
+    pub(super) fn next_number(&self) -> Option<u32> {
+        (self.number < LAST_SESSION).then(|| self.seen.max(self.number + 1))
+    }
+
+    /// Opens the session under a number, with nothing sent or accepted.
+    pub(super) fn reopen(&mut self, number: u32) {
+        let new = Session::new(self.here, self.peer, self.window, self.retry);
+        *self = Session { number, seen: self.seen, ..new };
     }
 
     /// How many items were handed on.
@@ -148,6 +168,7 @@ impl Session {
 
     /// A frame from the peer.
     pub(super) fn arrive(&mut self, frame: &Frame<'_>) -> Arrival {
+        self.seen = self.seen.max(frame.session);
         match frame.session.cmp(&self.number) {
             Ordering::Less => self.older(frame),
             Ordering::Equal => self.of_this_session(frame),
@@ -302,5 +323,33 @@ mod tests {
         assert_eq!((count, &bytes[28..]), (1, &[1, 2, 3, 4, 7][..]));
         end.close(1);
         assert_eq!(end.transmit().0[28..], [1, 2, 3, 4, 1]);
+    }
+
+    // What it sent and accepted in the session before is of no account, and no Close or Ack is owed for that.
+    #[test]
+    fn an_end_that_opens_again_begins_anew() {
+        let mut end = end(1);
+        end.send(vec![7]);
+        end.transmit();
+        let first = Frame { ack: 1, ..frame(DATA, 1) };
+        assert_eq!(took(end.arrive(&first)), Some(1));
+        end.close(1);
+        end.reopen(end.next_number().expect("there is one"));
+        assert_eq!((end.number, end.is_open(), end.due(), end.handed()), (2, true, 0, 0));
+        assert_eq!((end.front(), end.tick()), (None, false));
+        assert_eq!(took(end.arrive(&first)), Some(0));
+        assert_eq!((end.due(), end.accepted), (1, 0));
+        assert_eq!(took(end.arrive(&Frame { session: 2, ..first })), Some(1));
+    }
+
+    #[test]
+    fn an_end_opens_under_no_number_below_what_it_saw() {
+        for (seen, next) in [(1, Some(4)), (4, Some(4)), (9, Some(9)), (u32::MAX, Some(u32::MAX))] {
+            let mut end = end(3);
+            end.close(2);
+            end.arrive(&frame(CLOSE, seen));
+            assert_eq!(end.next_number(), next);
+        }
+        assert_eq!(end(u32::MAX).next_number(), None);
     }
 }

@@ -24,6 +24,8 @@ pub(super) mod refusal {
     pub(in super::super) const NOTHING: u32 = 10;
     pub(in super::super) const NO_JOB: u32 = 12;
     pub(in super::super) const LIMIT: u32 = 13;
+    pub(in super::super) const STILL_OPEN: u32 = 15;
+    pub(in super::super) const STILL_HELD: u32 = 16;
     pub(in super::super) const HELD: u32 = 111;
     pub(in super::super) const IN_TRANSIT: u32 = 112;
     pub(in super::super) const LISTED: u32 = 113;
@@ -45,6 +47,8 @@ enum Purpose {
 #[derive(Debug)]
 struct Message {
     peer: u16,
+    // The number of the session that it came in.
+    session: u32,
     item: u64,
     purpose: Purpose,
     value: Pickle,
@@ -277,7 +281,7 @@ impl Space {
         let (client, Purpose::Call { call, target, .. }) = (message.peer, message.purpose) else {
             return Err(NO_JOB);
         };
-        let is_open = self.is_open(client);
+        let is_open = self.is_open(client) && self.session(client).number() == message.session;
         if is_open {
             value.references.iter().try_for_each(|reference| self.may_be_held(*reference))?;
             self.has_room(client)?;
@@ -420,7 +424,8 @@ impl Space {
             self.table.ask(reference);
             self.hand_on(reference.owner, Item::Dirty(reference.index));
         }
-        self.keep(Message { peer, item, purpose, value, lent });
+        let session = self.session(peer).number();
+        self.keep(Message { peer, session, item, purpose, value, lent });
         Ok(())
     }
 
@@ -589,6 +594,26 @@ impl Space {
     pub(super) fn asked_to_close(&mut self, peer: u16) -> Result<Answer, Refused> {
         self.open_peer(peer)?;
         Ok(self.close(peer, 1))
+    }
+
+    /// Opens a session that has closed, once nothing of the peer's objects is left here.
+    pub(super) fn open(&mut self, peer: u16) -> Result<Answer, Refused> {
+        match () {
+            () if !self.is_peer(peer) => return Err(NO_PEER),
+            () if self.is_open(peer) => return Err(STILL_OPEN),
+            () if self.still_holds(peer) => return Err(STILL_HELD),
+            () => {}
+        }
+        let number = self.session(peer).next_number().ok_or(LIMIT)?;
+        self.session_mut(peer).reopen(number);
+        Ok(Answer::Number(17, number.into()))
+    }
+
+    // Whether a reference to an object of a peer's is held or pinned, or stands in a message that waits.
+    fn still_holds(&self, peer: u16) -> bool {
+        let carries =
+            |message: &Message| message.value.references.iter().any(|one| one.owner == peer);
+        self.table.has_any_of(peer) || self.messages.values().any(carries)
     }
 
     // Closes the session with a peer, and gives up what hung on it.

@@ -231,6 +231,12 @@ impl Table {
         }
     }
 
+    /// Whether a reference to an object of another space is held or pinned.
+    pub(super) fn has_any_of(&self, owner: u16) -> bool {
+        let is_used = |counts: &Counts| counts.holds() > 0 || counts.pins > 0;
+        self.others.iter().any(|(one, other)| one.owner == owner && is_used(&other.counts))
+    }
+
     /// The session with a space has closed: it is listed nowhere, and its references are lost.
     pub(super) fn close(&mut self, peer: u16) {
         for index in self.listed[usize::from(peer)].clone() {
