@@ -336,7 +336,8 @@ mod tests {
         end.close(1);
         end.reopen(end.next_number().expect("there is one"));
         assert_eq!((end.number, end.is_open(), end.due(), end.handed()), (2, true, 0, 0));
-        assert_eq!((end.front(), end.tick()), (None, false));
+        assert_eq!(end.front(), None);
+        assert!(!end.tick());
         assert_eq!(took(end.arrive(&first)), Some(0));
         assert_eq!((end.due(), end.accepted), (1, 0));
         assert_eq!(took(end.arrive(&Frame { session: 2, ..first })), Some(1));
