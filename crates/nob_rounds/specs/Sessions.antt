@@ -10,7 +10,7 @@ use Rattle.nob_model_types.specs.declared.event.Event.TheVariants as events
 use Rattle.nob_model_types.specs.declared.entry.Entry.{Entry}
 use Rattle.nob_rounds.specs.Rounds.{spaces_in}
 use Rattle.nob_rounds.specs.declared.sessions.SessionEnd.{SessionEnd}
-use Rattle.nob_rounds.specs.declared.sessions.Standing.{Standing}
+use Rattle.nob_rounds.specs.declared.sessions.SessionState.{SessionState}
 
 -- the peer whose session an event may close or open anew
 abbrev pub peer_of : Event → Option ℕ
@@ -31,17 +31,17 @@ abbrev pub is_of : SessionEnd → Entry → Bool
 is_of end entry = entry.space == end.space && is_peer end.peer (peer_of entry.event)
 
 -- how the result of an entry of an end leaves it
-abbrev pub after : Standing → Result Answer Refusal → Standing
+abbrev pub after : SessionState → Result Answer Refusal → SessionState
 after standing (Ok (answers.Closed reason)) = record { number = standing.number; is_closed = true }
 after standing (Ok (answers.Opened number)) = record { number = number; is_closed = false }
 after standing _ = standing
 
 -- how an entry of any space leaves an end
-abbrev pub after_any : SessionEnd → Standing → Entry → Standing
+abbrev pub after_any : SessionEnd → SessionState → Entry → SessionState
 after_any end standing entry = if is_of end entry then after standing entry.result else standing
 
 -- how an end stands after these entries: it begins open, in session 1
-abbrev pub standing_of : SessionEnd → List Entry → Standing
+abbrev pub standing_of : SessionEnd → List Entry → SessionState
 standing_of end entries = fold (after_any end) (record { number = 1; is_closed = false }) entries
 
 -- the end of the same session that the peer has
@@ -49,7 +49,7 @@ abbrev pub other_end : SessionEnd → SessionEnd
 other_end end = record { space = end.peer; peer = end.space }
 
 -- whether two ends are in one number and neither has closed
-abbrev pub are_open : Standing → Standing → Bool
+abbrev pub are_open : SessionState → SessionState → Bool
 are_open here there = (here.number == there.number && not here.is_closed) && not there.is_closed
 
 -- whether a session is open at both ends

@@ -24,5 +24,5 @@ pub use known::{Known, known_of, objects_of};
 pub use results::Kind;
 pub use rounds::{bring, deliver, deliver_each, round, spaces_in};
 pub use row::Words;
-pub use sessions::{SessionEnd, Standing, closed_ends, is_open, standing_of, unopen_ends};
+pub use sessions::{SessionEnd, SessionState, closed_ends, is_open, standing_of, unopen_ends};
 pub use steps::{random_event, random_step};

@@ -19,7 +19,7 @@ pub struct SessionEnd {
 
 /// How an end of a session stands.
 #[derive(Clone, Copy, Debug, PartialEq, Eq)]
-pub struct Standing {
+pub struct SessionState {
     /// The number of the session.
     pub number: u32,
     /// Whether the session has closed here.
@@ -54,15 +54,15 @@ fn is_of(end: &SessionEnd, entry: &Entry) -> bool
 }
 
 // How an entry of an end leaves it.
-fn after(standing: Standing, entry: &Entry) -> Standing
+fn after(standing: SessionState, entry: &Entry) -> SessionState
     ensures { result ≡ spec.after standing entry.now.result }
 {
     match &entry.result {
-        Ok(Answer::Closed(_)) => Standing {
+        Ok(Answer::Closed(_)) => SessionState {
             number: standing.number,
             is_closed: true,
         },
-        Ok(Answer::Opened(number)) => Standing {
+        Ok(Answer::Opened(number)) => SessionState {
             number: *number,
             is_closed: false,
         },
@@ -71,7 +71,7 @@ fn after(standing: Standing, entry: &Entry) -> Standing
 }
 
 // How an entry of any space leaves an end.
-fn after_any(end: &SessionEnd, standing: Standing, entry: &Entry) -> Standing
+fn after_any(end: &SessionEnd, standing: SessionState, entry: &Entry) -> SessionState
     ensures { result ≡ spec.after_any end.now standing entry.now }
 {
     if is_of(end, entry) {
@@ -81,16 +81,16 @@ fn after_any(end: &SessionEnd, standing: Standing, entry: &Entry) -> Standing
 }
 
 /// How an end stands after these entries. Linear in the entries.
-pub fn standing_of(end: &SessionEnd, entries: &[Entry]) -> Standing
+pub fn standing_of(end: &SessionEnd, entries: &[Entry]) -> SessionState
     ensures { result ≡ spec.standing_of end.now entries.now }
 {
-    let new = Standing {
+    let new = SessionState {
         number: 1,
         is_closed: false,
     };
     entries.iter().fold(
         new,
-        |standing: Standing, entry| after_any(end, standing, entry),
+        |standing: SessionState, entry| after_any(end, standing, entry),
     )
 }
 
