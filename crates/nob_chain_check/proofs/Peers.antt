@@ -5,7 +5,7 @@ use Rattle.std.specs.Prelude.{Option, Some, None}
 use Rattle.std.proofs.lemmas.Bool.{and_parts}
 use Rattle.std.proofs.lemmas.Bool.Decides.{nat_tests}
 use Rattle.nob_model_types.specs.declared.tally.Tally.{Tally}
-use Rattle.nob_model_types.specs.Sessions.{is_peer, number}
+use Rattle.nob_model_types.specs.Sessions.{is_peer}
 use Rattle.nob_model_history.specs.declared.history.History.{History}
 use Rattle.nob_model.specs.Tallies.{tally}
 use Rattle.nob_chain.specs.declared.seal.PeerSeal.{PeerSeal}
@@ -15,9 +15,9 @@ use Rattle.nob_chain.specs.Chains.{HasDue}
 use Rattle.nob_model_chains.specs.Sealing.{same_ending, is_said}
 use Rattle.nob_chain_check.specs.Running.{ArePeers, HasPeers}
 
--- what is compared with a space's number and tally is compared with the history's words
-pub said_by : (h : History) (p : PeerSeal) (k : ℕ) (t : Tally) → k ≡ number p.peer h.deeds → t ≡ tally p.peer h → (p.session == k && p.sent == t.sent && p.acted == t.acted && same_ending p.closed t.closed) ≡ is_said h p
-said_by h p k t numbered is = λ i. p.session == numbered i && p.sent == (is i).sent && p.acted == (is i).acted && same_ending p.closed (is i).closed
+-- what is compared with a space's tally is compared with the history's words
+pub said_by : (h : History) (p : PeerSeal) (t : Tally) → t ≡ tally p.peer h → (p.session == t.session && p.sent == t.sent && p.acted == t.acted && same_ending p.closed t.closed) ≡ is_said h p
+said_by h p t is = λ i. p.session == (is i).session && p.sent == (is i).sent && p.acted == (is i).acted && same_ending p.closed (is i).closed
 
 -- the next space that isn't the own one is a peer
 peer_at : (own n k p : ℕ) → 1 ≤ k → (p == first_other own k) ≡ true → nat_le (first_other own k) n ≡ true → is_peer own n p ≡ true

@@ -14,13 +14,13 @@ use nob_model_chains::same_ending;
 use nob_model_types::Tally;
 use nob_space::Space;
 
-// Whether it is said of a peer that its session has a number, and what a tally says of that.
-fn is_as(peer: &PeerSeal, session: u32, tally: &Tally) -> bool
-    ensures { result ≡ (peer.now.session == session && peer.now.sent == tally.now.sent
+// Whether it is said of a peer what a tally says.
+fn is_as(peer: &PeerSeal, tally: &Tally) -> bool
+    ensures { result ≡ (peer.now.session == tally.now.session && peer.now.sent == tally.now.sent
         && peer.now.acted == tally.now.acted
         && words.same_ending peer.now.closed tally.now.closed) }
 {
-    peer.session == session
+    peer.session == tally.session
         && peer.sent == tally.sent
         && peer.acted == tally.acted
         && same_ending(peer.closed, tally.closed)
@@ -32,9 +32,8 @@ fn is_said(space: &Space, peer: &PeerSeal) -> bool
     ensures { (L : List EntryOf) → StandsFor space.now L
         → result ≡ words.is_said (history space.now.id space.now.n L) peer.now }
 {
-    let session = space.number(peer.peer);
     let tally = space.tally(peer.peer);
-    is_as(peer, session, &tally)
+    is_as(peer, &tally)
 }
 
 // Whether it is said of each of these peers what a space says of it.

@@ -9,9 +9,9 @@ use Rattle.nob_model_history.specs.declared.history.History.{History}
 use Rattle.nob_model_history.specs.Ends.{calls_at}
 use Rattle.nob_model_history.specs.Transit.{count_to, sent}
 
--- the tally of the session with p: how many items were sent to p in it, how many from p were acted on, and why the end closed, if it has
+-- the tally of the session with p: its number, how many items were sent to p in it, how many from p were acted on, and why the end closed, if it has
 abbrev pub tally : ℕ → History → Tally
-tally p h = record { sent = count_to p (number p h.deeds) (sent h); acted = length (acted p h.deeds); closed = ending (calls_at p h) }
+tally p h = record { session = number p h.deeds; sent = count_to p (number p h.deeds) (sent h); acted = length (acted p h.deeds); closed = ending (calls_at p h) }
 
 -- how many objects of space s are live
 abbrev pub live_count : ℕ → History → ℕ

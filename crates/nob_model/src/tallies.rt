@@ -43,6 +43,7 @@ pub fn tally(alloc: Global, peer: SpaceId, history: &History) -> Result<Tally, A
     let session = sessions::number(peer, history.deeds.as_slice());
     let calls = calls_at(alloc, peer, history)?;
     Ok(Tally {
+        session,
         sent: count_to(peer, session, sent_items.as_slice()) as u64,
         acted: acted(peer, history.deeds.as_slice()) as u64,
         closed: ending(calls.as_slice()),

@@ -5,7 +5,6 @@ use Rattle.std.specs.Option.{option_or}
 use Rattle.nob_ids.specs.Reasons.{reason_number}
 use Rattle.nob_ids.specs.declared.reason.Reason.{Reason}
 use Rattle.nob_model_types.specs.declared.entry.Entry.{Entry}
-use Rattle.nob_model_types.specs.Sessions.{number}
 use Rattle.nob_model_history.specs.Histories.{history}
 use Rattle.nob_model_history.specs.declared.history.History.{History}
 use Rattle.nob_model.specs.Tallies.{tally, live_count}
@@ -26,7 +25,7 @@ same_ending _ _ = false
 -- whether it is said of a peer what the space's history says: the session's number, how many items were handed to the peer and how many of its were acted on in that session, and how this end stands
 abbrev pub is_said : History → PeerSeal → Bool
 is_said h peer =
-    peer.session == number peer.peer h.deeds && peer.sent == (tally peer.peer h).sent && peer.acted == (tally peer.peer h).acted && same_ending peer.closed (tally peer.peer h).closed
+    peer.session == (tally peer.peer h).session && peer.sent == (tally peer.peer h).sent && peer.acted == (tally peer.peer h).acted && same_ending peer.closed (tally peer.peer h).closed
 
 -- whether a seal says what space s among n says of itself after these entries, the newest of which stands FIRST and has this stamp: how many of its objects are live, and what is said of each peer
 abbrev pub is_right_seal : (s n stamp : ℕ) → List Entry → Seal → Bool

@@ -11,7 +11,6 @@ use nob_ids::{Reason, SpaceId};
 use nob_model::tallies::{live_count, tally};
 use nob_model::{Entry, Here, History, make_history};
 use nob_model_traces::copy_entry;
-use nob_model_types::sessions::number;
 use nob_trace::Stamped;
 use std::alloc::{AllocError, Global};
 
@@ -36,9 +35,8 @@ fn is_said(alloc: Global, peer: PeerSeal, history: &History) -> Result<bool, All
     ensures { IfOk result (λ said. said ≡ words.is_said history.now peer) }
 {
     let tally = tally(alloc, peer.peer, history)?;
-    let session = number(peer.peer, history.deeds.as_slice());
     Ok(
-        peer.session == session
+        peer.session == tally.session
             && peer.sent == tally.sent
             && peer.acted == tally.acted
             && same_ending(peer.closed, tally.closed),

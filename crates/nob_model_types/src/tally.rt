@@ -2,9 +2,11 @@
 
 use nob_ids::Reason;
 
-/// What went each way on the session with a peer, and how it ended.
+/// What went each way on the present session with a peer, and how it ended.
 #[derive(Clone, Copy, Debug, PartialEq, Eq)]
 pub struct Tally {
+    /// The session's number.
+    pub session: u32,
     /// How many items were handed to the peer.
     pub sent: u64,
     /// How many of the peer's items were acted on here.

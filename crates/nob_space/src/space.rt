@@ -9,7 +9,7 @@ ghost use Rattle.nob_model_types.specs.declared.answer.Answer.TheVariants as ans
 ghost use Rattle.nob_model_types.specs.declared.event.Event.TheVariants as events;
 ghost use Rattle.nob_model_types.specs.declared.entry.Entry.{Entry};
 ghost use Rattle.nob_model_types.specs.Deeds.{deeds};
-ghost use Rattle.nob_model_types.specs.Sessions.{is_peer, number};
+ghost use Rattle.nob_model_types.specs.Sessions.{is_peer};
 ghost use Rattle.nob_model_history.specs.Histories.{history};
 ghost use Rattle.nob_model_history.specs.Listing.{is_listed};
 ghost use Rattle.nob_model.specs.Next as next;
@@ -205,19 +205,9 @@ impl Space {
         self.parts.due(peer)
     }
 
-    /// The number of the session with a peer. It takes no memory, and constant time. The caller's
-    /// condition: it is a peer.
-    pub fn number(&self, peer: SpaceId) -> u32
-        requires { is_peer self.now.id self.now.n peer ≡ true }
-        ensures { (L : List Entry) → StandsFor self.now L
-            → result ≡ number peer (history self.now.id self.now.n L).deeds }
-    {
-        self.parts.number(peer)
-    }
-
-    /// How many items were handed to a peer in the session with it, how many of the peer's were acted
-    /// on, and why the session closed here, if it has. It takes no memory, and constant time. The
-    /// caller's condition: it is a peer.
+    /// The session with a peer: its number, how many items were handed to the peer in it, how many of
+    /// the peer's were acted on, and why it closed here, if it has. It takes no memory, and constant
+    /// time. The caller's condition: it is a peer.
     pub fn tally(&self, peer: SpaceId) -> Tally
         requires { is_peer self.now.id self.now.n peer ≡ true }
         ensures { (L : List Entry) → StandsFor self.now L

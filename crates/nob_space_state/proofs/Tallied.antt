@@ -12,17 +12,19 @@ use Rattle.nob_model_history.specs.Premises.{NumbersRise}
 use Rattle.nob_model_history.specs.Transit.{count_to, sent}
 use Rattle.nob_model_history.proofs.Inbox.{acted_takes}
 use Rattle.nob_model_history.proofs.Numbered.{count_handed}
+use Rattle.nob_model_history.proofs.Sessions.{number_is}
 use Rattle.nob_model.specs.Tallies.{tally, backlog}
 use Rattle.nob_space_state.specs.Parts.{State}
 use Rattle.nob_space_state.specs.Stands.{Stands}
 
 -- the tally with p is what the end with p counts
-pub tally_there : (s n p : ℕ) (limits : Limits) (end : End) (D : List Deed) → NumbersRise D → session.Stands s p limits end (calls_at p (history_of s n D)) → tally p (history_of s n D) ≡ record { sent = end.handed; acted = end.taken; closed = end.ending }
+pub tally_there : (s n p : ℕ) (limits : Limits) (end : End) (D : List Deed) → NumbersRise D → session.Stands s p limits end (calls_at p (history_of s n D)) → tally p (history_of s n D) ≡ record { session = end.number; sent = end.handed; acted = end.taken; closed = end.ending }
 tally_there s n p limits end D rises stands =
     let handed_is : end.handed ≡ count_to p (number p D) (sent (history_of s n D)) = ap (λ (e : End). e.handed) stands ∙ count_handed s n p D rises in
     let taken_is : end.taken ≡ length (acted p D) = ap (λ (e : End). e.taken) stands ∙ sym (acted_takes s n p D) in
+    let number_there : end.number ≡ number p D = ap (λ (e : End). e.number) stands ∙ number_is s n p D in
     let ending_is : end.ending ≡ ending (calls_at p (history_of s n D)) = ap (λ (e : End). e.ending) stands in
-    rw (sym handed_is, sym taken_is, sym ending_is) refl
+    rw (sym number_there, sym handed_is, sym taken_is, sym ending_is) refl
 
 -- what isn't done yet is as many calls and jobs as the state has
 pub backlog_there : {s n : ℕ} {limits : Limits} {st : State} {D : List Deed} → Stands s n limits st D → backlog (history_of s n D) ≡ record { calls = length st.work.calls; ready = length st.work.ready; running = length st.work.running }

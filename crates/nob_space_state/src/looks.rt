@@ -120,6 +120,7 @@ impl Parts {
     {
         let session = &self.sessions[peer.place()];
         Tally {
+            session: session.number(),
             sent: session.handed(),
             acted: session.taken(),
             closed: session.ending(),

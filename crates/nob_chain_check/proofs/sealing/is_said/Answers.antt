@@ -4,4 +4,4 @@ use Rattle.nob_chain_check.proofs.Peers.{said_by}
 use Rattle.nob_chain_check.proofs.sealing.is_said.Goals as goal
 
 pub returns : goal.returns
-returns c L stands = c.is_as.ensures ∙ said_by (history c.args.space.now.id c.args.space.now.n L) c.args.peer.now c.number-session.result c.tally-tally.result (c.number-session.ensures L stands) (c.tally-tally.ensures L stands)
+returns c L stands = c.is_as.ensures ∙ said_by (history c.args.space.now.id c.args.space.now.n L) c.args.peer.now c.tally-tally.result (c.tally-tally.ensures L stands)
