@@ -51,5 +51,7 @@ abbrev pub onward : End → End
 onward e = record e { seen = max e.number e.seen }
 
 -- an end stands for a list of calls, from its session onward, if it is the end that an alike list of calls leaves
-abbrev pub StandsOnward : (me peer : ℕ) → Limits → End → List EndEntry → Type 0
-StandsOnward me peer limits e L = (M : List EndEntry) × Stands me peer limits e M × AreAlike M L
+pub record StandsOnward (me peer : ℕ) (limits : Limits) (e : End) (L : List EndEntry) : Type 0 where
+  pub calls : List EndEntry
+  pub stands : Stands me peer limits e calls
+  pub alike : AreAlike calls L
