@@ -177,20 +177,20 @@ module _ (L M : List EndEntry) (alike : AreAlike L M) where
   -- or with an opening
   reopened_alike : (k : ℕ) (done : Unit {0}) → Ok done ≡ right_reopen k L → Ok done ≡ right_reopen k M → AreAlike (Reopen k (Ok done) ∷ L) (Reopen k (Ok done) ∷ M)
   reopened_alike k done right_there right_here = ap (λ latest. record {
-      number = k;
-      latest = latest;
-      ending = None;
-      handed = [];
-      lowest = 1;
-      transmitted = 0;
-      accepted_count = 0;
-      payload = λ n. None;
-      accepted = [];
-      takes = 0;
-      data_arrived = false;
-      ticks = 0;
-      owes_close = false;
-    }) (opened_latest k done L right_there ∙ sym (opened_latest k done M right_here))
+    number = k;
+    latest = latest;
+    ending = None;
+    handed = [];
+    lowest = 1;
+    transmitted = 0;
+    accepted_count = 0;
+    payload = λ n. None;
+    accepted = [];
+    takes = 0;
+    data_arrived = false;
+    ticks = 0;
+    owes_close = false;
+  }) (opened_latest k done L right_there ∙ sym (opened_latest k done M right_here))
 
   arrive_alike : (me peer : ℕ) (frame : Frame) → right_arrive me peer frame L ≡ right_arrive me peer frame M
   arrive_alike me peer frame = λ i.
@@ -238,7 +238,7 @@ onward_is {me} {peer} {limits} {e} {L} its = ap onward its.stands ∙ end_alike 
 
 -- an end that stands for a list stands for it onward
 pub onward_by : {me peer : ℕ} {limits : Limits} {e : End} {L : List EndEntry} → Stands me peer limits e L → StandsOnward me peer limits e L
-onward_by {me} {peer} {limits} {e} {L} stands = record { calls = L; stands = stands; alike = refl; }
+onward_by {me} {peer} {limits} {e} {L} stands = record { calls = L; stands = stands; alike = refl }
 
 -- a call that is right, and after which the end stands, for each list of calls for which it stood before, is so onward
 pub called_onward : {me peer : ℕ} {limits : Limits} {old new : End} {L : List EndEntry} (entry : EndEntry) → StandsOnward me peer limits old L
@@ -246,7 +246,7 @@ pub called_onward : {me peer : ℕ} {limits : Limits} {old new : End} {L : List 
     → IsRight me peer limits entry L × StandsOnward me peer limits new (entry ∷ L)
 called_onward {me} {peer} {limits} {old} {new} {L} entry its call =
     let done = call its.calls its.stands in
-    (right_alike its.calls L its.alike me peer limits entry done.0, record { calls = entry ∷ its.calls; stands = done.1; alike = more_alike its.calls L its.alike me peer limits entry done.0; })
+    (right_alike its.calls L its.alike me peer limits entry done.0, record { calls = entry ∷ its.calls; stands = done.1; alike = more_alike its.calls L its.alike me peer limits entry done.0 })
 
 -- so is a call that leaves the end as it is
 pub told_onward : {me peer : ℕ} {limits : Limits} {e : End} {L : List EndEntry} (entry : EndEntry) → StandsOnward me peer limits e L
