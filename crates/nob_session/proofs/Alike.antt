@@ -270,7 +270,7 @@ called_onward {me} {peer} {limits} {old} {new} {L} entry its call =
 -- so is a list that the calls make of each list for which the end stood, if it makes alike lists of alike ones
 pub made_onward : {me peer : ℕ} {limits : Limits} {old new : End} {L : List EndEntry} (make : List EndEntry → List EndEntry) → ((M N : List EndEntry) → AreAlike M N → AreAlike (make M) (make N)) → StandsOnward me peer limits old L
     → ((M : List EndEntry) → Stands me peer limits old M → Stands me peer limits new (make M)) → StandsOnward me peer limits new (make L)
-made_onward {me} {peer} {limits} {old} {new} {L} make keeps its call = record { calls = make its.calls; stands = call its.calls its.stands; alike = keeps its.calls L its.alike; }
+made_onward {me} {peer} {limits} {old} {new} {L} make keeps its call = record { calls = make its.calls; stands = call its.calls its.stands; alike = keeps its.calls L its.alike }
 
 -- one call more, which begins no session
 pub stepped_onward : {me peer : ℕ} {limits : Limits} {old new : End} {L : List EndEntry} (entry : EndEntry) → is_opening entry ≡ false → StandsOnward me peer limits old L
