@@ -45,6 +45,10 @@ mapped_some f None = refl
 pub act_there : {s n : ℕ} {limits : Limits} {st : State} {D : List Deed} → Stands s n limits st D → (p : ℕ) → is_peer s n p ≡ true → has_closed st.sessions p ≡ false → can_act s n p (history_of s n D) ≡ is_some (right_front (calls_at p (history_of s n D)))
 act_there {s} {n} {limits} {st} {D} stands p peer still = rw (peer, sym (closed_there stands p), still) refl
 
+-- there is none of a session that has closed
+pub act_shut : {s n : ℕ} {limits : Limits} {st : State} {D : List Deed} → Stands s n limits st D → (p : ℕ) → is_peer s n p ≡ true → has_closed st.sessions p ≡ true → false ≡ can_act s n p (history_of s n D)
+act_shut {s} {n} {limits} {st} {D} stands p peer cut = sym (rw (peer, sym (closed_there stands p), cut) refl)
+
 -- what a Transmit to a peer would give is told by the calls on the end with it
 pub due_there : (s n p window : ℕ) (h : History) → is_peer s n p ≡ true → due s n p window h ≡ due_of (transmitted (calls_at p h)) (right_transmit s p window (calls_at p h))
 due_there s n p window h peer = rw peer refl
