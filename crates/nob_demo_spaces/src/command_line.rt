@@ -150,7 +150,8 @@ With --traces the traces are written in place of these lines, for nobj check:
 it says `merged ..` and `verdict yes`.
 
 With `--keep nothing` (just so, or `--keep=nothing`) the spaces keep no traces,
-so K may be up to 1000000000, and there is no --traces. What is written then:
+so N may be up to 32 and K up to 1000000000, and there is no --traces. What is
+written then:
 
   calls K      as above
   total T      as above
