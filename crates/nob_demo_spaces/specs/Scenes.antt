@@ -3,7 +3,7 @@ use Rattle.std.specs.Prelude.{◌≤◌, ℕ, Bool}
 use Rattle.nob_keeper.specs.declared.keep.Keep.{Keep}
 use Rattle.nob_keeper.specs.declared.keep.Keep.TheVariants.{All, Nothing}
 
--- a scene: its spaces, the workers of each, calls in all, frames of ten that are lost, where chances start, whether traces are printed, and what the nodes keep of their entries
+-- a scene: its spaces, the workers of each, calls in all, frames of ten that are lost, where chances start, whether chains are printed, and what the nodes keep of their entries
 pub record Setting : Type 0 where
   pub spaces : ℕ
   pub workers : ℕ

@@ -119,7 +119,7 @@ impl Scene {
         self.seed
     }
 
-    /// Whether the traces are printed.
+    /// Whether the chains are printed.
     pub fn traces(self) -> bool
         ensures { result ≡ self.traces }
     {
