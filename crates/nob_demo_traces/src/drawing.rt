@@ -1,7 +1,9 @@
 //! What `nobj draw` does with a whole input.
 
 ghost use Rattle.std.specs.Prelude.{◌≡◌, ◌++◌, [], ℕ, List, IfOk};
+ghost use Rattle.nob_chain.specs.declared.chain.ChainParts.{ChainParts as Parts};
 ghost use Rattle.nob_chain.specs.Inputs.{AreSpelt};
+ghost use Rattle.nob_demo_traces.specs.Judging.{IsJudged};
 ghost use Rattle.nob_demo_traces.specs.Draws as spec;
 
 use crate::drawn::{drawn, drawn_wrong};
@@ -9,6 +11,8 @@ use crate::judging::judged;
 use crate::set::spaces_of;
 use nob_chain::{Chain, ChainError, decode_all, refusal_line};
 use nob_model_chains::are_one_each;
+use nob_model_traces::WrongEntry;
+use nob_model_types::Entry;
 use std::alloc::{AllocError, Global};
 
 /// How drawing ends.
@@ -91,6 +95,22 @@ fn bytes_of_chains(
     }
     let n = spaces_of(chains.as_slice());
     let (merged, wrong) = judged(alloc, chains)?;
+    bytes_of_entries(alloc, n, part, merged, wrong)
+}
+
+// What is written for the entries of chains of so many spaces, and how it ends.
+fn bytes_of_entries(
+    alloc: Global,
+    n: u16,
+    part: Part,
+    merged: Vec<Entry>,
+    wrong: Option<WrongEntry>,
+) -> Result<(Vec<u8>, Ending), AllocError>
+    ensures { (input : List ℕ) (chains : List Parts) → AreSpelt input chains
+        → IsJudged chains merged.items wrong → n ≡ spec.spaces_of chains
+        → IfOk result (λ said.
+        spec.Draws input part (said.0.items ++ spec.last_line said.1) said.1) }
+{
     match wrong {
         Some(entry) => {
             let bytes = drawn_wrong(alloc, n, part, entry, merged)?;

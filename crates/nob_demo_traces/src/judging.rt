@@ -4,7 +4,7 @@ ghost use Rattle.std.specs.Prelude.{◌≡◌, true, Some, IfOk, MatchOption, ma
 ghost use Rattle.std.specs.List.{AllByRecursion};
 ghost use Rattle.nob_chain.specs.Chains.{joined};
 ghost use Rattle.nob_model_traces.specs.Traces.{are_one_each};
-ghost use Rattle.nob_model_chains.specs.Lowest.{fault_of as fault_at};
+ghost use Rattle.nob_model_chains.specs.Lowest.{fault_of};
 ghost use Rattle.nob_chain_check.specs.Running.{IsRightAndSealed};
 ghost use Rattle.nob_demo_traces.specs.Judging as spec;
 
@@ -52,7 +52,7 @@ fn last_place(space: SpaceId, number: usize, chains: &[Chain]) -> usize
 
 // The entry that what is wrong in a chain is of: a wrong seal is of the last entry of its segment.
 fn entry_in(chains: &[Chain], wrong: WrongChain) -> WrongEntry
-    ensures { spec.wrong_entry chains.now (fault_at wrong) ≡ Some result }
+    ensures { spec.wrong_entry chains.now (fault_of wrong) ≡ Some result }
 {
     let space = wrong.space;
     match wrong.part {
