@@ -1028,8 +1028,9 @@ impl Engine {
         }
     }
 
-    /// Opens the session with a peer anew, which has closed here: its number. The peer's program opens it as well; until
-    /// it has, what is sent to it is given again and again, as long as for a peer that doesn't acknowledge anything.
+    /// Opens the session with a peer anew, which has closed here: its number. The peer's program opens it as well. Until
+    /// it has, what is sent to it waits there, up to 64 items, and is given again and again, as long as for a peer that
+    /// doesn't acknowledge anything. What waited here of the peer's comes to the space at once.
     ///
     /// ```
     /// # use masttomato::engine::*;
@@ -1055,6 +1056,7 @@ impl Engine {
             link.open(number, now);
             self.turn.changes.push((peer, link.session));
         }
+        self.bring_passed_over(peer, now);
         Ok(number)
     }
 
