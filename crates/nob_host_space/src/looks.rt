@@ -1,6 +1,6 @@
 //! What can be seen of a space, in numbers.
 
-ghost use Rattle.std.specs.Prelude.{◌≡◌, ◌++◌, List, false, length, take, drop};
+ghost use Rattle.std.specs.Prelude.{◌≡◌, ◌++◌, List, true, false, length, take, drop};
 ghost use Rattle.nob_ids.specs.Names.{IsSpace};
 ghost use Rattle.nob_model_types.specs.declared.entry.Entry.{Entry};
 ghost use Rattle.nob_model_types.specs.Deeds.{deeds};
