@@ -30,11 +30,13 @@
 mod coming;
 mod going;
 mod link;
+mod report;
 mod trace;
 mod turning;
 mod wire;
 
 pub use link::OutBuffer;
+pub use report::{Report, SessionReport};
 pub use trace::{Files, TraceSink};
 pub use wire::{HELLO, Hello, LONGEST_BODY, Life, Why, World};
 
@@ -383,8 +385,8 @@ pub struct Engine {
     has_stuck: bool,
     look_at: Duration,
     calls: ByNumber<CallNo, (Ticket, SpaceId)>,
-    // Jobs that weren't finished, and whose they are.
-    jobs: ByNumber<JobNo, SpaceId>,
+    // Jobs that weren't finished: whose they are, and since when.
+    jobs: ByNumber<JobNo, (SpaceId, Duration)>,
     tickets: ByNumber<Ticket, Option<CallNo>>,
     ready: Vec<CallNo>,
     turn: Turn,
@@ -976,7 +978,7 @@ impl Engine {
         if let Outcome::Answer(value) | Outcome::Fault(value) = &finish.outcome {
             finish.holds = self.hold_all(value.references());
         }
-        let client = self.jobs.get(&job).copied();
+        let client = self.jobs.get(&job).map(|(client, _)| *client);
         if let Some(link) = client.and_then(|client| self.links.get_mut(client)) {
             link.finishes.push_back(finish);
             self.has_held = true;
@@ -985,7 +987,7 @@ impl Engine {
 
     // Whether the job was finished.
     fn try_finish(&mut self, finish: &HeldFinish) -> bool {
-        let Some(client) = self.jobs.get(&finish.job).copied() else { return true };
+        let Some((client, _)) = self.jobs.get(&finish.job).copied() else { return true };
         match self.space.finish(finish.job, &finish.outcome) {
             Ok(_) => {}
             Err(error) if self.is_want_of_room(client, error) => return false,

@@ -11,6 +11,7 @@ mod net;
 mod peers;
 mod pool;
 mod shared;
+mod spans;
 
 pub use self::call::{Call, CallError, Fault};
 pub use self::cancel::Cancelled;
@@ -25,7 +26,7 @@ use self::driver::{Driver, driving};
 use self::net::{Net, WAKER};
 use self::pool::Pool;
 use self::shared::Command;
-use crate::engine::{Counts, Engine, Hello, Life, Session, Settings, TraceSink, World};
+use crate::engine::{Counts, Engine, Hello, Life, Report, Session, Settings, TraceSink, World};
 use crate::interface::{Description, Interface};
 use crate::space::{SpaceError, SpaceId};
 use mio::net::TcpListener;
@@ -1130,6 +1131,24 @@ impl Node {
     /// Or the node has stopped.
     pub fn open(&self, peer: SpaceId) -> Result<u32, NodeError> {
         open(&self.inner.shared, peer)
+    }
+
+    /// How it stands: its live objects, its sessions and what went each way on them, its oldest job, and what it
+    /// counted. The report's text is for Prometheus to read.
+    ///
+    /// ```
+    /// # use masttomato::{Node, Peers, SpaceId};
+    /// # fn main() -> Result<(), Box<dyn std::error::Error>> {
+    /// let node = Node::builder(SpaceId::try_from(1)?, Peers::none()).start()?;
+    /// println!("{}", node.report()?);
+    /// # Ok(())
+    /// # }
+    /// ```
+    ///
+    /// # Errors
+    /// Where the node has stopped.
+    pub fn report(&self) -> Result<Report, NodeError> {
+        ask(&self.inner.shared, Core::report)
     }
 
     /// What was counted; nothing where the node has stopped.
