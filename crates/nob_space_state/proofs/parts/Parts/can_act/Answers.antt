@@ -1,7 +1,9 @@
 use Rattle.std.proofs.Common.{◌≡◌, ◌-◌, List, true, is_some, get_or, sym, ap, subst, ◌∙◌}
+use Rattle.nob_model_session.specs.declared.entry.EndEntry.TheVariants as ends
+use Rattle.nob_model_session.specs.Texts.{front_text}
 use Rattle.nob_session.specs.Stands.{Roomy}
+use Rattle.nob_session.proofs.Alike.{told_onward}
 use Rattle.nob_model_types.specs.Sessions.{is_peer}
-use Rattle.nob_model_history.specs.Ends.{calls_at}
 use Rattle.nob_model_history.specs.Histories.{history_of}
 use Rattle.nob_space_state.proofs.Ends.{at_peer, end_there}
 use Rattle.nob_space_state.proofs.Nexts.{mapped_some, act_there}
@@ -14,5 +16,5 @@ returns-in-Some c limits D stands =
     let is = at_peer c.args.self.now.sessions.items c.place.result c.args.peer c.in-Some.session.now c.place.ensures.value read in
     let there = end_there c.args.self.now.here.space c.args.self.now.here.n limits c.args.self.now.sessions.items (history_of c.args.self.now.here.space c.args.self.now.here.n D) c.args.peer c.in-Some.session.now stands.ends peer is in
     c.is_some.ensures ∙ mapped_some _ c.front.result
-    ∙ ap is_some (c.front.ensures.answer c.args.self.now.here.space c.args.peer limits (calls_at c.args.peer (history_of c.args.self.now.here.space c.args.self.now.here.n D)) there.2)
+    ∙ ap is_some (told_onward (ends.Front (front_text c.front.result)) there.2 (λ M stood. c.front.ensures.answer c.args.self.now.here.space c.args.peer limits M stood))
     ∙ sym (act_there stands c.args.peer peer (sym c.has_closed.ensures ∙ c.if-has_closed.false))
