@@ -93,8 +93,11 @@ fn chain_of(lines: &[&str], size: u32) -> String {
     assert_eq!(space.trace().expect("a trace").to_string(), lines.join("\n") + "\n");
     let text = chain.to_string();
     // Its entries are the trace's.
-    let entries: Vec<&str> =
-        text.lines().skip(1).filter(|line| line.starts_with(|c: char| c.is_ascii_digit())).collect();
+    let entries: Vec<&str> = text
+        .lines()
+        .skip(1)
+        .filter(|line| line.starts_with(|c: char| c.is_ascii_digit()))
+        .collect();
     assert_eq!(entries, lines[1..]);
     text
 }
@@ -124,11 +127,16 @@ fn a_seal_that_is_wrong_is_found() {
     }
     space.seal();
     let text = space.chain().expect("a chain").to_string();
-    for (seals, wanted) in [(["live 2", "live 3"], "verdict yes\n"), (["live 2", "live 2"], "C5 1 2\n")] {
+    for (seals, wanted) in
+        [(["live 2", "live 3"], "verdict yes\n"), (["live 2", "live 2"], "C5 1 2\n")]
+    {
         let text = text.replace("live 2", seals[0]).replace("live 3", seals[1]);
         if let Some(said) = nobj("check", text.as_bytes()) {
             assert!(said.ends_with(wanted), "{said}");
         }
     }
-    assert_eq!(Chain::first_line(space.id(), space.spaces(), space.limits(), 2), text.lines().next().expect("a line").to_owned() + "\n");
+    assert_eq!(
+        Chain::first_line(space.id(), space.spaces(), space.limits(), 2),
+        text.lines().next().expect("a line").to_owned() + "\n"
+    );
 }

@@ -10,6 +10,7 @@ use tracing::field::{Field, Visit};
 use tracing::span::{Attributes, Id, Record};
 use tracing::{Event, Metadata, Subscriber, info_span};
 
+/// An object of tests.
 #[interface]
 pub trait Bell {
     /// Rings once.
@@ -143,11 +144,15 @@ fn calls_and_methods_are_spans_and_sessions_make_events() {
 
     caller.close(one);
     assert!(matches!(bell.ring().wait(), Err(CallError::Down(_) | CallError::Ended(_))));
-    let errors = || listener.of_name("call").into_iter().filter_map(|heard| heard.fields.get("error").cloned());
+    let errors = || {
+        listener.of_name("call").into_iter().filter_map(|heard| heard.fields.get("error").cloned())
+    };
     assert_eq!(errors().count(), 1);
     let changes = |session: &str| {
         let events = listener.of_name("event").into_iter();
-        events.filter(|heard| heard.fields.get("session").is_some_and(|said| said == session)).count()
+        events
+            .filter(|heard| heard.fields.get("session").is_some_and(|said| said == session))
+            .count()
     };
     eventually("both ends say that they are open", || changes("Open") >= 2);
     eventually("both ends say that they closed", || {

@@ -67,7 +67,12 @@ pub(crate) struct ServeSpan {
 #[cfg_attr(not(feature = "tracing"), allow(unused_variables, clippy::unused_self))]
 impl ServeSpan {
     /// Of a method of an object; the call's number is its client's, and 0 for a call within this node.
-    pub(crate) fn new(client: SpaceId, call: Option<CallNo>, object: u64, method: u16) -> ServeSpan {
+    pub(crate) fn new(
+        client: SpaceId,
+        call: Option<CallNo>,
+        object: u64,
+        method: u16,
+    ) -> ServeSpan {
         ServeSpan {
             #[cfg(feature = "tracing")]
             span: tracing::debug_span!(

@@ -107,7 +107,18 @@ impl Chain {
     /// ```
     pub fn new(space: SpaceId, spaces: SpaceId, limits: Limits, size: SegmentSize) -> Chain {
         let (sealed, open) = (String::new(), String::new());
-        Chain { space, spaces, limits, size, segments: 0, sealed, count: 0, open, last: 0, stamp: 0 }
+        Chain {
+            space,
+            spaces,
+            limits,
+            size,
+            segments: 0,
+            sealed,
+            count: 0,
+            open,
+            last: 0,
+            stamp: 0,
+        }
     }
 
     /// The stamp of the last entry, or what it was risen to since.

@@ -195,6 +195,75 @@ fn a_method_that_blocks_takes_a_worker_and_nothing_else() {
     eventually("their answers were taken", || two.counts().calls_open == 0);
 }
 
+// What each end says of its session is what the other says of it, once all that was sent has been acted on.
+#[test]
+fn a_report_says_what_a_node_has() {
+    let (one, two, counter, _alive) = pair();
+    for by in 1..=20 {
+        assert_eq!(counter.add(by).wait(), Ok(by * (by + 1) / 2));
+    }
+    let sessions = || {
+        let of = |node: &Node, peer| {
+            let session = node.report().expect("it runs").sessions[0];
+            assert_eq!((session.peer, session.session), (id(peer), Session::Open));
+            session
+        };
+        (of(&one, 2), of(&two, 1))
+    };
+    eventually("both say the same", || {
+        let (of_one, of_two) = sessions();
+        (of_one.tally.sent, of_two.tally.sent) == (of_two.tally.acted, of_one.tally.acted)
+            && (of_one.unacknowledged, of_two.unacknowledged) == (0, 0)
+    });
+    let (of_one, of_two) = sessions();
+    assert_eq!((of_one.tally.session, of_one.tally.closed), (1, None));
+    // 21 calls of the second, and what its reference to the counter took.
+    assert!(of_two.tally.sent > 21 && of_one.tally.sent > 21, "{of_one:?}, {of_two:?}");
+    assert_eq!((one.report().expect("it runs").live, two.report().expect("it runs").live), (1, 0));
+
+    let gate = Gate::default();
+    let maker = one.export::<dyn Trouble>(Box::new(Maker(gate.clone()))).expect("room");
+    one.bind("trouble", &maker).expect("a name");
+    let maker: Remote<dyn Trouble> = two.lookup(id(1), "trouble").wait().expect("a maker");
+    let waits = maker.waits();
+    eventually("a job is long there", || {
+        let report = one.report().expect("it runs");
+        report.jobs == 1 && report.oldest_job.is_some_and(|time| time > Duration::from_millis(20))
+    });
+    let text = one.report().expect("it runs").to_string();
+    for line in
+        ["masttomato_jobs{space=\"1\"} 1", "masttomato_session_up{space=\"1\",peer=\"2\"} 1"]
+    {
+        assert!(text.lines().any(|said| said == line), "{text}");
+    }
+    assert_is_prometheus(&text);
+    gate.open();
+    assert_eq!(waits.wait(), Ok(1));
+    two.close(id(1));
+    let closed = two.report().expect("it runs").sessions[0];
+    assert_eq!((closed.tally.closed, closed.unacknowledged), (Some(Reason::Asked), 0));
+    assert_eq!(closed.tally.session, 1);
+}
+
+// Each metric has its help and its kind before its values, once, and each value is a number.
+fn assert_is_prometheus(text: &str) {
+    let mut known: Vec<String> = Vec::new();
+    for line in text.lines() {
+        if let Some(rest) = line.strip_prefix("# TYPE ") {
+            let (name, kind) = rest.split_once(' ').expect("a kind");
+            assert_eq!(name.ends_with("_total"), kind == "counter", "{line}");
+            assert!(!known.contains(&name.to_string()), "{line}");
+            known.push(name.into());
+        } else if !line.starts_with("# HELP ") {
+            let (name, rest) = line.split_once('{').expect("labels");
+            let (_, value) = rest.split_once("} ").expect("a value");
+            assert_eq!(known.last().map(String::as_str), Some(name), "{line}");
+            assert!(value.parse::<f64>().is_ok(), "{line}");
+        }
+    }
+    assert!(known.len() > 20);
+}
+
 // A reply that nobody waits for brings a reference: it is given back.
 #[test]
 fn what_an_abandoned_call_brings_is_given_back() {
