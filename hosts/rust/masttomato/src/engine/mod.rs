@@ -42,8 +42,8 @@ pub use wire::{HELLO, Hello, LONGEST_BODY, Life, Why, World};
 
 use crate::numbers::ByNumber;
 use crate::space::{
-    CallNo, Due, Job, JobNo, Limits, Outcome, Reason, Reference, Refusal, Space, SpaceError,
-    SpaceId, Status, Value,
+    CallNo, Due, Job, JobNo, Limits, Outcome, Reason, Reference, Refusal, SegmentSize, Space,
+    SpaceError, SpaceId, Status, Value,
 };
 use link::{HeldCall, HeldFinish, Link, Links};
 use std::fmt;
@@ -392,6 +392,7 @@ pub struct Engine {
     turn: Turn,
     counts: Counts,
     sink: Option<Box<dyn TraceSink>>,
+    chain_sink: Option<Box<dyn TraceSink>>,
 }
 
 impl fmt::Debug for Engine {
@@ -441,6 +442,7 @@ impl Engine {
             turn: Turn::default(),
             counts: Counts::default(),
             sink: None,
+            chain_sink: None,
         })
     }
 
@@ -463,6 +465,48 @@ impl Engine {
     pub fn record(&mut self, sink: Box<dyn TraceSink>) {
         self.space.keep_trace();
         self.sink = Some(sink);
+    }
+
+    /// From now on the space keeps a chain, whose segments go to a sink as they are sealed. It is to be asked for before
+    /// anything else, and may be beside a trace. See [`Files::of_segments`].
+    ///
+    /// ```
+    /// # use masttomato::engine::*;
+    /// # use masttomato::space::SegmentSize;
+    /// # use masttomato::{SpaceId, Value};
+    /// # use std::time::Duration;
+    /// # let [one, two] = [1, 2].map(|number| SpaceId::new(number).expect("1 to 32"));
+    /// # let now = Duration::ZERO;
+    /// # let mut engine = Engine::new(Settings::new(one, two), now)?;
+    /// engine.record_chain(SegmentSize::default(), Box::new(|segments: &str| {
+    ///     print!("{segments}");
+    ///     Ok(())
+    /// }));
+    /// engine.export()?;
+    /// engine.seal();                                   // now it is printed
+    /// # Ok::<(), Box<dyn std::error::Error>>(())
+    /// ```
+    pub fn record_chain(&mut self, size: SegmentSize, sink: Box<dyn TraceSink>) {
+        self.space.keep_chain(size);
+        self.chain_sink = Some(sink);
+    }
+
+    /// Seals what of the chain isn't sealed yet, and gives it to its sink: at the end, since what isn't sealed is in no
+    /// chain.
+    ///
+    /// ```
+    /// # use masttomato::engine::*;
+    /// # use masttomato::{SpaceId, Value};
+    /// # use std::time::Duration;
+    /// # let [one, two] = [1, 2].map(|number| SpaceId::new(number).expect("1 to 32"));
+    /// # let now = Duration::ZERO;
+    /// # let mut engine = Engine::new(Settings::new(one, two), now)?;
+    /// engine.seal();                                   // it keeps none
+    /// # Ok::<(), Box<dyn std::error::Error>>(())
+    /// ```
+    pub fn seal(&mut self) {
+        self.space.seal();
+        self.flush();
     }
 
     /// The number of the space.

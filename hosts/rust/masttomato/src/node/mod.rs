@@ -28,7 +28,7 @@ use self::pool::Pool;
 use self::shared::Command;
 use crate::engine::{Counts, Engine, Hello, Life, Report, Session, Settings, TraceSink, World};
 use crate::interface::{Description, Interface};
-use crate::space::{SpaceError, SpaceId};
+use crate::space::{SegmentSize, SpaceError, SpaceId};
 use mio::net::TcpListener;
 use mio::{Poll, Waker};
 use std::fmt;
@@ -452,6 +452,7 @@ pub struct Builder {
     open_calls: usize,
     life: Life,
     sink: Option<Box<dyn TraceSink>>,
+    chain: Option<(SegmentSize, Box<dyn TraceSink>)>,
     spawner: Option<Arc<dyn Spawn>>,
 }
 
@@ -481,6 +482,7 @@ impl Builder {
             open_calls: 2_048,
             life: random_life(),
             sink: None,
+            chain: None,
             spawner: None,
         }
     }
@@ -641,6 +643,26 @@ impl Builder {
         self
     }
 
+    /// The space keeps a chain of segments of this size, which go to a sink as they are sealed, the last one when the node
+    /// ends: for `nobj check`, as traces. A node that is killed leaves out what wasn't sealed; [`record`](Builder::record)
+    /// leaves out nothing. Both may be asked for.
+    ///
+    /// ```
+    /// # use masttomato::space::SegmentSize;
+    /// # use masttomato::{Node, Peers, SpaceId};
+    /// # let [one, two] = [1, 2].map(|number| SpaceId::new(number).expect("1 to 32"));
+    /// use masttomato::engine::Files;
+    ///
+    /// let files = Files::of_segments("chains", one, 1 << 20);
+    /// let node = Node::builder(one, Peers::none()).record_chain(SegmentSize::default(), files).start()?;
+    /// # drop(node);
+    /// # Ok::<(), Box<dyn std::error::Error>>(())
+    /// ```
+    pub fn record_chain(mut self, size: SegmentSize, sink: impl TraceSink + 'static) -> Builder {
+        self.chain = Some((size, Box::new(sink)));
+        self
+    }
+
     // Tests say which life it is.
     #[doc(hidden)]
     pub fn life(mut self, life: u64) -> Builder {
@@ -746,7 +768,8 @@ impl Builder {
             open_calls: self.open_calls,
         };
         let shared = Shared::new(space, waker, self.looks);
-        Ok(Parts { shared, net, settings, sink: self.sink, spawner: self.spawner, address })
+        let (sink, chain, spawner) = (self.sink, self.chain, self.spawner);
+        Ok(Parts { shared, net, settings, sink, chain, spawner, address })
     }
 }
 
@@ -755,6 +778,7 @@ struct Parts {
     net: Net,
     settings: Settings,
     sink: Option<Box<dyn TraceSink>>,
+    chain: Option<(SegmentSize, Box<dyn TraceSink>)>,
     spawner: Option<Arc<dyn Spawn>>,
     address: Option<SocketAddr>,
 }
@@ -765,6 +789,9 @@ impl Parts {
         let mut engine = Engine::new(self.settings, Duration::ZERO).map_err(NodeError::Space)?;
         if let Some(sink) = self.sink {
             engine.record(sink);
+        }
+        if let Some((size, sink)) = self.chain {
+            engine.record_chain(size, sink);
         }
         let core = Core::new(engine, self.shared.clone(), pool, self.spawner, started);
         Ok(Driver::new(core, self.net, self.shared, started))

@@ -9,8 +9,10 @@ mod things;
 
 use common::checking::fault_of;
 use common::nobj;
-use masttomato::engine::{Answered, HELLO, Why};
-use masttomato::space::{Limits, Outcome, Reference, Refusal, SpaceError, Status, Trace, Value};
+use masttomato::engine::{Answered, Files, HELLO, Why};
+use masttomato::space::{
+    Limits, Outcome, Reference, Refusal, SegmentSize, SpaceError, Status, Trace, Value,
+};
 use masttomato::{CallError, Fault, Node, NodeError, Peers, Reason, Remote, Run, Session};
 use plain::Plain;
 use proxy::Proxy;
@@ -423,6 +425,44 @@ fn the_traces_of_nodes_are_a_run() {
     assert_eq!(fault_of(&traces), None);
     if let Some(said) = nobj("check", traces.concat().as_bytes()) {
         assert!(said.ends_with("\nverdict yes\n"), "{said}");
+    }
+}
+
+// The same of chains that they leave in files, whose last segments are sealed as they end. One whose seal says another
+// number is found.
+#[test]
+fn the_chains_of_nodes_are_a_run() {
+    let folder = std::env::temp_dir().join(format!("masttomato-chains-{}", std::process::id()));
+    std::fs::create_dir_all(&folder).expect("a folder");
+    let place = AtomicU64::new(0);
+    let record = |builder: masttomato::Builder| {
+        let number = place.fetch_add(1, SeqCst) as u16 + 1;
+        let size = SegmentSize::new(10 * u32::from(number)).expect("a size");
+        builder.record_chain(size, Files::of_segments(&folder, id(number), 1 << 12))
+    };
+    let [one, two] = nodes(2, record).try_into().expect("two");
+    let (counter, _alive) = tally(&one);
+    one.bind("counter", &counter).expect("a name");
+    let counter: Remote<dyn Counter> = two.lookup(id(1), "counter").wait().expect("a counter");
+    for total in 1..=50 {
+        assert_eq!(counter.add(1).wait(), Ok(total));
+    }
+    two.close(id(1));
+    drop((counter, one, two));
+    let chains: Vec<String> = (1..=2)
+        .map(|space| Files::join_chain(&folder, id(space), id(2)).expect("a chain"))
+        .collect();
+    std::fs::remove_dir_all(&folder).expect("the folder");
+    let last: Vec<&str> = chains.iter().filter_map(|chain| chain.lines().last()).collect();
+    for (seal, session) in last.iter().zip([" peer 2 session 1 sent ", " peer 1 session 1 sent "]) {
+        assert!(seal.starts_with("seal ") && seal.contains(session), "{seal}");
+        assert!(seal.contains(" closed "), "{seal}");
+    }
+    if let Some(said) = nobj("check", chains.concat().as_bytes()) {
+        assert!(said.ends_with("\nverdict yes\n"), "{said}");
+        let spoilt = chains.concat().replacen(" live 1 ", " live 2 ", 1);
+        let said = nobj("check", spoilt.as_bytes()).expect("it is there");
+        assert!(said.ends_with("C5 1 1\n"), "{said}");
     }
 }
 
