@@ -165,8 +165,8 @@ impl<T: Drop> Past<T> {
     {
         let alloc = *self.kept.allocator();
         let earlier = Snapshot::of(&*self);
-        let one = Snapshot::of(&item);
-        self.earlier = Link::Item(earlier, one);
+        let newest = Snapshot::of(&item);
+        self.earlier = Link::Item(earlier, newest);
         self.len += 1;
         self.kept.push_reserved(item);
         mem::replace(&mut self.kept, Vec::new(alloc))
