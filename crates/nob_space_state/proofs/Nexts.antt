@@ -1,5 +1,5 @@
 -- What could be done next, by the state.
-use Rattle.std.proofs.Common.{◌≡◌, ℕ, ◌+◌, ◌-◌, ◌<◌, ◌≤◌, ◌==◌, ◌&&◌, not, nat_lt, Bool, true, false, List, [], ◌∷◌, find, get_or, Option, Some, None, Ok, is_some, option_map, refl, sym, ap, subst, ◌∙◌, arith}
+use Rattle.std.proofs.Common.{◌≡◌, ℕ, ◌+◌, ◌<◌, ◌≤◌, ◌==◌, ◌&&◌, not, nat_lt, Bool, true, false, List, [], ◌∷◌, find, Option, Some, None, Ok, is_some, option_map, refl, sym, ap, subst, ◌∙◌, arith}
 use Rattle.std.specs.Prelude.{◌≢◌, MatchOption}
 use Rattle.std.proofs.lemmas.Bool.Decides.{nat_tests, Decides-eqb}
 use Rattle.std.proofs.lemmas.Cmp.{nat_eq_equiv}
@@ -15,19 +15,15 @@ use Rattle.nob_model_session.specs.End.{transmitted}
 use Rattle.nob_model_session.specs.Right.{right_front, right_transmit}
 use Rattle.nob_session.specs.declared.due.Due.TheVariants.{Nothing}
 use Rattle.nob_session.specs.Dues.{due_of}
-use Rattle.nob_session.specs.Calls.{frames_of}
-use Rattle.nob_session.specs.Stands.{Roomy}
-use Rattle.nob_session.proofs.Alike.{onward_is}
-use Rattle.nob_frame.specs.declared.frame.Frame.{Frame}
 use Rattle.nob_model_types.specs.declared.deed.Deed.{Deed}
 use Rattle.nob_model_types.specs.Sessions.{is_peer}
 use Rattle.nob_model_work.specs.declared.work.Outstanding.{Outstanding}
 use Rattle.nob_model_history.specs.declared.history.History.{History}
 use Rattle.nob_model_history.specs.Ends.{calls_at}
 use Rattle.nob_model_history.specs.Histories.{history_of}
-use Rattle.nob_model_history.specs.Transit.{is_some_of}
 use Rattle.nob_model_acting.specs.Candidates.{is_free}
-use Rattle.nob_model.specs.Next.{can_act, can_claim, can_send, to_withdraw}
+use Rattle.nob_model_history.specs.Transit.{is_some_of}
+use Rattle.nob_model.specs.Next.{can_act, can_send, can_claim, to_withdraw}
 use Rattle.nob_model.specs.Right.{own_ref, right_withdraw}
 use Rattle.nob_model_acting.specs.Sending.{unless}
 use Rattle.nob_model.proofs.Possible.{least_law}
@@ -36,7 +32,6 @@ use Rattle.nob_space_state.specs.Looks.{has_closed, has_clients, has_holds, is_u
 use Rattle.nob_space_state.specs.Dues.{due}
 use Rattle.nob_space_state.specs.Parts.{State}
 use Rattle.nob_space_state.specs.Stands.{Stands}
-use Rattle.nob_space_state.proofs.Ends.{end_there}
 use Rattle.nob_space_state.proofs.Exported.{withdraw_passes, withdraw_right}
 use Rattle.nob_space_state.proofs.Kept.{is_used_there, users_there}
 use Rattle.nob_space_state.proofs.Rows.{differ}
@@ -55,19 +50,15 @@ act_there {s} {n} {limits} {st} {D} stands p peer still = rw (peer, sym (closed_
 pub act_shut : {s n : ℕ} {limits : Limits} {st : State} {D : List Deed} → Stands s n limits st D → (p : ℕ) → is_peer s n p ≡ true → has_closed st.sessions p ≡ true → false ≡ can_act s n p (history_of s n D)
 act_shut {s} {n} {limits} {st} {D} stands p peer cut = sym (rw (peer, sym (closed_there stands p), cut) refl)
 
--- a word that says whether there are frames
-some_told : (frames : List Frame) (some : Bool) → (some ≡ true → frames ≢ []) → (some ≡ false → frames ≡ []) → some ≡ is_some_of frames
-some_told [] true there none = absurd (there refl refl)
-some_told [] false there none = refl
-some_told (frame ∷ frames) true there none = refl
-some_told (frame ∷ frames) false there none = absurd (let bad : frame ∷ frames ≡ [] = none refl in cc)
+-- whether something is there, as a look says that tells the empty list from all others
+pub some_by : {A : Type 0} (b : Bool) (xs : List A) → (b ≡ true → xs ≢ []) → (b ≡ false → xs ≡ []) → b ≡ is_some_of xs
+some_by true [] some none = absurd (some refl refl)
+some_by true (x ∷ xs) some none = refl
+some_by false xs some none = sym (ap is_some_of (none refl))
 
--- a Transmit would give a frame where the end has one to give
-pub send_told : {s n : ℕ} {limits : Limits} {st : State} {D : List Deed} → Stands s n limits st D → (p : ℕ) (end : Roomy) → is_peer s n p ≡ true → end ≡ get_or st.sessions (p - 1) end
-    → (some : Bool) → (some ≡ true → frames_of end.end ≢ []) → (some ≡ false → frames_of end.end ≡ []) → some ≡ can_send s n p limits.window (history_of s n D)
-send_told {s} {n} {limits} {st} {D} stands p end peer is some there none =
-    let same : frames_of end.end ≡ right_transmit s p limits.window (calls_at p (history_of s n D)) = ap frames_of (onward_is (end_there s n limits st.sessions (history_of s n D) p end stands.ends peer is).2) in
-    some_told (frames_of end.end) some there none ∙ ap is_some_of same ∙ sym (rw peer refl)
+-- whether a Transmit to a peer would give a frame is told by the calls on the end with it
+pub send_there : (s n p window : ℕ) (h : History) → is_peer s n p ≡ true → can_send s n p window h ≡ is_some_of (right_transmit s p window (calls_at p h))
+send_there s n p window h peer = rw peer refl
 
 -- what a Transmit to a peer would give is told by the calls on the end with it
 pub due_there : (s n p window : ℕ) (h : History) → is_peer s n p ≡ true → due s n p window h ≡ due_of (transmitted (calls_at p h)) (right_transmit s p window (calls_at p h))
