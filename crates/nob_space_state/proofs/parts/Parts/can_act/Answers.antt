@@ -6,8 +6,11 @@ use Rattle.nob_session.proofs.Alike.{told_onward}
 use Rattle.nob_model_types.specs.Sessions.{is_peer}
 use Rattle.nob_model_history.specs.Histories.{history_of}
 use Rattle.nob_space_state.proofs.Ends.{at_peer, end_there}
-use Rattle.nob_space_state.proofs.Nexts.{mapped_some, act_there}
+use Rattle.nob_space_state.proofs.Nexts.{mapped_some, act_shut, act_there}
 use Rattle.nob_space_state.proofs.parts.Parts.can_act.Goals as goal
+
+pub returns-then-has_closed : goal.returns-then-has_closed
+returns-then-has_closed c limits D stands = act_shut stands c.args.peer (sym c.is_peer.ensures ∙ c.if-not-is_peer.false) (sym c.has_closed.ensures ∙ c.if-has_closed.true)
 
 pub returns-in-Some : goal.returns-in-Some
 returns-in-Some c limits D stands =
