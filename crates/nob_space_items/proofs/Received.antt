@@ -27,7 +27,7 @@ use Rattle.nob_model_work.specs.Work.{work, after_message, is_none_of, make_read
 use Rattle.nob_model_history.specs.declared.history.History.{History}
 use Rattle.nob_model_history.specs.declared.transit.SentItem.{SentItem}
 use Rattle.nob_model_history.specs.Histories.{history_of}
-use Rattle.nob_model_history.specs.Ends.{calls_at}
+use Rattle.nob_model_history.specs.Ends.{calls_at, items_to, with_sends}
 use Rattle.nob_model_history.specs.Holds.{hand, times, lent_in, loans_of}
 use Rattle.nob_model.specs.Lists.{IsRightDeed}
 use Rattle.nob_space_state.specs.Parts.{State}
