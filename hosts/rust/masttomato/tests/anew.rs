@@ -70,7 +70,7 @@ impl Scene {
     // A call of another's agent with a number, and with a fresh object in every third one.
     fn call(&mut self, from: usize, to: usize, number: u64) {
         let engine = &mut self.engines[from];
-        let object = (number % 3 == 0).then(|| engine.export().expect("room"));
+        let object = number.is_multiple_of(3).then(|| engine.export().expect("room"));
         let list = [Value::Int(number as i64)].into_iter().chain(object.map(Value::Ref));
         engine.call(Ticket(number), id(to).agent(), 0, Value::List(list.collect()));
         object.into_iter().for_each(|object| engine.release(object));

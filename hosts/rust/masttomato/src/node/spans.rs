@@ -16,6 +16,7 @@ pub(crate) struct CallSpan {
     span: Span,
 }
 
+#[cfg_attr(not(feature = "tracing"), allow(clippy::derivable_impls))]
 impl Default for CallSpan {
     fn default() -> CallSpan {
         CallSpan {
