@@ -5,9 +5,18 @@ use denote.Struct.Declared.{shape}
 use denote.Struct.Field.{u64-field}
 use denote.Struct.Struct.{Struct}
 use Rattle.std.proofs.Crossing.{crosses, Vec-send, Vec-sync}
+use Rattle.std.specs.contracts.option.Option as Option
 use Rattle.std.specs.contracts.result.Result as Result
 use Rattle.std.specs.contracts.sync.Condvar as Condvar
 use Rattle.nob_bytes.proofs.owned.Bytes.TheSendSync as bytes
+use Rattle.nob_chain.proofs.seal.PeerSeals.TheSendSync as peer_seals
+use Rattle.nob_chain.specs.contracts.chain.Chain as Chain
+use Rattle.nob_chain.specs.contracts.chain.Chain.TheInside as ChainInside
+use Rattle.nob_chain.specs.contracts.chain.ChainParts as ChainParts
+use Rattle.nob_chain.specs.contracts.seal.Seal as Seal
+use Rattle.nob_chain.specs.contracts.segment.Segment as Segment
+use Rattle.nob_chain.specs.contracts.segment.Segments as Segments
+use Rattle.nob_chain.specs.contracts.segment.Segments.TheInside as SegmentsInside
 use Rattle.nob_dirty.proofs.sets.DirtySets.TheSendSync as dirty
 use Rattle.nob_keeper.specs.contracts.held.Held as Held
 use Rattle.nob_keeper.specs.contracts.keeper.Keeper as Keeper
@@ -56,10 +65,10 @@ use Rattle.nob_table.proofs.table.ObjectTable.TheSendSync as table
 use Rattle.nob_keeper.specs.contracts.summary.PeerTally as PeerTally
 use Rattle.nob_keeper.specs.contracts.summary.Record as Record
 use Rattle.nob_keeper.specs.contracts.summary.Summary as Summary
+use Rattle.nob_keeper.specs.contracts.trail.Trail as Trail
 use Rattle.nob_trace.specs.contracts.stamped.Stamped as Stamped
 use Rattle.nob_trace.specs.contracts.trace.Entries as Entries
 use Rattle.nob_trace.specs.contracts.trace.Entries.TheInside as EntriesInside
-use Rattle.nob_trace.specs.contracts.trace.Trace as Trace
 
 copy_send : IsSend RefCopy.the_row
 copy_send = search sendable depth 30
@@ -165,22 +174,47 @@ noted_send =
     let T = Noted.the_type in
     recorded_send (Struct (shape T)) T.D T.to T.to_one (struct_send (shape T) (search sendable, (stamped_fields_send, tt)))
 
-kept_inside_send : IsSend KeptInside.the_row
-kept_inside_send =
-    let T = KeptInside.the_type in
-    recorded_send (Struct (shape T)) T.D T.to T.to_one (struct_send (shape T) (
-      space_send,
+entries_inside_send : IsSend EntriesInside.the_row
+entries_inside_send =
+    let T = EntriesInside.the_type in
+    recorded_send (Struct (shape T)) T.D T.to T.to_one (struct_send (shape T) (Vec-send Stamped.the_row stamped_send, tt))
+
+entries_send : IsSend Entries.the_row
+entries_send = view_send EntriesInside.the_row _ _ _ _ entries_inside_send
+
+seal_send : IsSend Seal.the_row
+seal_send =
+    let T = Seal.the_type in
+    recorded_send (Struct (shape T)) T.D T.to T.to_one (struct_send (shape T) (search sendable, (search sendable, (peer_seals.the_send, tt))))
+
+maybe_seal_send : IsSend (Option.the_field Seal.the_row).row
+maybe_seal_send = search (seal_send, sendable) depth 60 fits 20000
+
+segment_send : IsSend Segment.the_row
+segment_send =
+    let T = Segment.the_type in
+    recorded_send (Struct (shape T)) T.D T.to T.to_one (struct_send (shape T) (entries_send, (maybe_seal_send, tt)))
+
+trail_fields_send : IsSend (Struct (shape Trail.the_type))
+trail_fields_send =
+    struct_send (shape Trail.the_type) (
+      search sendable depth 30,
       (
         search sendable depth 30,
         (
-          search sendable depth 30,
+          search sendable,
           (
             search (stamped_send, past.crosses, crosses, sendable) depth 60,
-            (search sendable, (Vec-send Noted.the_row noted_send, tt)),
+            (Vec-send Segment.the_row segment_send, (search sendable, tt)),
           ),
         ),
       ),
-    ))
+    )
+
+kept_inside_send : IsSend KeptInside.the_row
+kept_inside_send =
+    let T = KeptInside.the_type in
+    recorded_send (Struct (shape T)) T.D T.to T.to_one (struct_send (shape T) (space_send, (trail_fields_send, (Vec-send Noted.the_row noted_send, tt))))
 
 pub kept_send : IsSend Kept.the_row
 kept_send = view_send KeptInside.the_row _ _ _ _ kept_inside_send
@@ -220,16 +254,25 @@ seat_inside_send =
 pub seat_send : IsSend Seat.the_row
 seat_send = view_send SeatInside.the_row _ _ _ _ seat_inside_send
 
-entries_inside_send : IsSend EntriesInside.the_row
-entries_inside_send =
-    let T = EntriesInside.the_type in
-    recorded_send (Struct (shape T)) T.D T.to T.to_one (struct_send (shape T) (Vec-send Stamped.the_row stamped_send, tt))
+segments_inside_send : IsSend SegmentsInside.the_row
+segments_inside_send =
+    let T = SegmentsInside.the_type in
+    recorded_send (Struct (shape T)) T.D T.to T.to_one (struct_send (shape T) (Vec-send Segment.the_row segment_send, tt))
 
-entries_send : IsSend Entries.the_row
-entries_send = view_send EntriesInside.the_row _ _ _ _ entries_inside_send
+segments_send : IsSend Segments.the_row
+segments_send = view_send SegmentsInside.the_row _ _ _ _ segments_inside_send
 
-trace_send : IsSend (Trace.the_field).row
-trace_send = struct_send (shape Trace.the_type) (search sendable depth 30, (search sendable depth 30, (search sendable depth 30, (search (crosses, sendable) depth 60, (entries_send, tt)))))
+chain_parts_fields_send : IsSend (Struct (shape ChainParts.the_type))
+chain_parts_fields_send =
+    struct_send (shape ChainParts.the_type) (search sendable depth 30, (search sendable depth 30, (search (crosses, sendable) depth 60, (segments_send, tt))))
+
+chain_inside_send : IsSend ChainInside.the_row
+chain_inside_send =
+    let T = ChainInside.the_type in
+    recorded_send (Struct (shape T)) T.D T.to T.to_one (struct_send (shape T) (chain_parts_fields_send, tt))
+
+chain_send : IsSend Chain.the_row
+chain_send = view_send ChainInside.the_row _ _ _ _ chain_inside_send
 
 peer_tally_send : IsSend PeerTally.the_row
 peer_tally_send = search (crosses, sendable) depth 60 fits 20000
@@ -242,4 +285,4 @@ summary_send =
 
 -- what a keeper leaves may go to another thread
 pub record_send : IsSend (Record.the_field).row
-record_send = search (trace_send, summary_send, crosses, sendable) depth 60 fits 20000
+record_send = search (chain_send, summary_send, crosses, sendable) depth 60 fits 20000

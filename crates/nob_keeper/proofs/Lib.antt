@@ -1,5 +1,7 @@
 pub mod Staying
 pub mod Accounts
+pub mod Segments
+pub mod Trails
 pub mod Seats
 pub mod Newest
 pub mod Spots

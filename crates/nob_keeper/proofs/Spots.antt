@@ -1,16 +1,14 @@
 -- What stays of the newest entries of seats once one of them has asked.
 use Rattle.std.proofs.Common.{◌≡◌, ◌≢◌, ◌⊎◌, inl, inr, ℕ, ◌+◌, ◌-◌, ◌≤◌, List, [], ◌∷◌, ◌++◌, length, Option, Some, None, Result, Ok, Err, IfErr, OnErr, slice_get, refl, sym, ap, subst, ◌∙◌, arith}
-use Prim.Native.Nat.{suc}
 use Rattle.std.proofs.lemmas.Option.{slice_get_within, get_or_from_slice_get}
 use Rattle.nob_keeper.specs.declared.keep.Keep.{Keep}
 use Rattle.nob_keeper.specs.declared.keep.Keep.TheVariants as keeps
 use Rattle.nob_keeper.specs.declared.receipt.Receipt.{Receipt}
-use Rattle.nob_past.specs.Lists.{Listed}
 use Rattle.nob_trace.specs.declared.stamped.Stamped.{Stamped}
 use Rattle.nob_keeper.specs.declared.error.KeeperError.{KeeperError}
 use Rattle.nob_keeper.specs.declared.error.KeeperError.TheVariants as errors
 use Rattle.nob_keeper.specs.declared.noted.Noted.{Noted}
-use Rattle.nob_keeper.specs.Staying.{AreKept, AreNoted, IsAmong, IsNoted}
+use Rattle.nob_keeper.specs.Staying.{AreStaying, AreNoted, IsAmong, IsNoted}
 use Rattle.nob_keeper.specs.Spots.{IsSpotOf, StaysAt, noted_after, noted_next}
 use Rattle.nob_keeper.specs.Accounts.{Account, with_next, with_noted}
 use Rattle.nob_keeper.specs.Receipts.{Told, entry_of}
@@ -54,9 +52,9 @@ stays_newest account after receipts receipt spot its place is =
     })
 
 -- where only what stays is kept, that is at its places
-pub noted_there : (keep : Keep) (entries : Listed Stamped) (noted : List Noted) → AreKept keep entries noted → keep ≡ keeps.Nothing → AreNoted entries.items noted
+pub noted_there : (keep : Keep) (entries : List Stamped) (noted : List Noted) → AreStaying keep entries noted → keep ≡ keeps.Nothing → AreNoted entries noted
 noted_there keeps.All entries noted kept is = absurd (cc)
-noted_there keeps.Nothing entries noted kept is = kept.1
+noted_there keeps.Nothing entries noted kept is = kept
 
 -- a seat is refused only where its newest receipt isn't told of the entries, or its entry isn't there
 pub refused : (account : Account) (receipts : List Receipt) (receipt : Receipt) (result : Result ℕ KeeperError) → account.keep ≡ keeps.Nothing → newest receipts ≡ Some receipt
@@ -66,12 +64,15 @@ refused account receipts receipt (Ok spot) nothing is error not = tt
 refused account receipts receipt (Err fault) nothing is error not =
     (error, λ has there. elim (newest_there account receipts receipt is there) as (λ h. ⊥) [ inl all ↦ absurd (cc) | inr among ↦ not (newest_told account.entries receipts receipt is has) among ])
 
--- what is kept of a list of which one entry more was passed on or kept
-pub kept_more : (keep : Keep) (old new : Listed Stamped) (entry : Stamped) (noted : List Noted) → new.items ≡ old.items ++ entry ∷ []
-    → (keep ≡ keeps.All → new.gone ≡ old.gone) → (keep ≡ keeps.Nothing → new.gone ≡ length new.items) → AreKept keep old noted → AreKept keep new noted
-kept_more keeps.All old new entry noted items all passed kept = (all refl ∙ kept.0, kept.1)
-kept_more keeps.Nothing old new entry noted items all passed kept =
-    (passed refl, subst (λ (es : List Stamped). AreNoted es noted) (sym items) (noted_stay old.items (entry ∷ []) noted kept.1))
+-- of a new space nothing stays
+pub staying_new : (keep : Keep) (entries : List Stamped) (noted : List Noted) → noted ≡ [] → AreStaying keep entries noted
+staying_new keeps.All entries noted none = none
+staying_new keeps.Nothing entries noted none = subst (AreNoted entries) (sym none) tt
+
+-- what stays where one entry more is made
+pub staying_more : (keep : Keep) (old new : List Stamped) (entry : Stamped) (noted : List Noted) → new ≡ old ++ entry ∷ [] → AreStaying keep old noted → AreStaying keep new noted
+staying_more keeps.All old new entry noted items kept = kept
+staying_more keeps.Nothing old new entry noted items kept = subst (λ (es : List Stamped). AreNoted es noted) (sym items) (noted_stay old (entry ∷ []) noted kept)
 
 -- the entry behind others is that of the next place
 noted_next_one : (old new : List Stamped) (told entry : Stamped) (place : ℕ) → new ≡ old ++ told ∷ [] → Some told ≡ Some entry → place ≡ length old + 1
@@ -80,21 +81,14 @@ noted_next_one old new told entry place items is at =
     let here : place - 1 ≡ length old = omega (arith, at) in
     (omega (arith, at), ap (slice_get new) here ∙ ap (λ (es : List Stamped). slice_get es (length old)) items ∙ at_next old told ∙ is)
 
--- what is kept where the entry that was passed on stays
-pub kept_put : (keep : Keep) (old new : Listed Stamped) (told entry : Stamped) (passed : Option Stamped) (place : ℕ) (noted before after : List Noted)
-    → new.items ≡ old.items ++ told ∷ [] → (keep ≡ keeps.All → (new.gone ≡ old.gone) × (passed ≡ None)) → (keep ≡ keeps.Nothing → (new.gone ≡ length new.items) × (passed ≡ Some told))
-    → passed ≡ Some entry → place ≡ length old.items + 1 → before ≡ noted → AreKept keep old noted
+-- what stays where the entry that was passed on does
+pub staying_put : (keep : Keep) (old new : List Stamped) (told entry : Stamped) (passed : Option Stamped) (place : ℕ) (noted before after : List Noted)
+    → new ≡ old ++ told ∷ [] → (keep ≡ keeps.All → passed ≡ None) → (keep ≡ keeps.Nothing → passed ≡ Some told)
+    → passed ≡ Some entry → place ≡ length old + 1 → before ≡ noted → AreStaying keep old noted
     → ((entries : List Stamped) → AreNoted entries before → IsNoted entries (record { place = place; entry = entry }) → AreNoted entries after)
-    → AreKept keep new after
-kept_put keeps.All old new told entry passed place noted before after items all nothing is at same kept put =
-    let none : passed ≡ None = (all refl).1 in absurd (cc)
-kept_put keeps.Nothing old new told entry passed place noted before after items all nothing is at same kept put =
-    let stay : AreNoted new.items noted = subst (λ (es : List Stamped). AreNoted es noted) (sym items) (noted_stay old.items (told ∷ []) noted kept.1) in
-    ((nothing refl).0, put new.items (subst (AreNoted new.items) (sym same) stay) (noted_next_one old.items new.items told entry place items (sym (nothing refl).1 ∙ is) at))
-
--- of a list of which all is kept the kept part is the list
-pub whole_kept : (keep : Keep) (list : Listed Stamped) (noted : List Noted) (before kept : List Stamped) → AreKept keep list noted → keep ≡ keeps.All
-    → list.items ≡ before ++ kept → length before ≡ list.gone → kept ≡ list.items
-whole_kept keeps.All list noted [] kept are is items long = sym items
-whole_kept keeps.All list noted (first ∷ before) kept are is items long = let none = are.0 in let some : suc (length before) ≡ list.gone = long in absurd (omega (arith, none, some))
-whole_kept keeps.Nothing list noted before kept are is items long = absurd (cc)
+    → AreStaying keep new after
+staying_put keeps.All old new told entry passed place noted before after items all nothing is at same kept put =
+    let none : passed ≡ None = all refl in absurd (cc)
+staying_put keeps.Nothing old new told entry passed place noted before after items all nothing is at same kept put =
+    let stay : AreNoted new noted = subst (λ (es : List Stamped). AreNoted es noted) (sym items) (noted_stay old (told ∷ []) noted kept) in
+    put new (subst (AreNoted new) (sym same) stay) (noted_next_one old new told entry place items (sym (nothing refl) ∙ is) at)

@@ -5,7 +5,8 @@ use Rattle.std.proofs.lemmas.List.{map-append}
 use Rattle.std.proofs.lemmas.List.Elements.{filter-append}
 use Rattle.nob_model_types.specs.Sessions.{is_peer}
 use Rattle.nob_keeper.specs.Accounts.{Account}
-use Rattle.nob_keeper.specs.Summaries.{tally_with, tallies_among, spaces_to}
+use Rattle.nob_keeper.specs.Segments.{spaces_to}
+use Rattle.nob_keeper.specs.Summaries.{tally_with, tallies_among}
 
 -- the tallies up to a space are those before, and its own
 pub tallies_next : (account : Account) (number : ℕ) → 1 ≤ number

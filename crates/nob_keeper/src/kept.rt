@@ -1,6 +1,6 @@
 //! A space with its trace.
 
-ghost use Rattle.std.specs.Prelude.{◌≡◌, ◌≢◌, ◌↔◌, ◌≤◌, ◌<◌, ◌^◌, ◌+◌, ◌-◌, ◌⊎◌, ◌&&◌, ◌||◌, ◌++◌, ◌∷◌, [], ℕ, List, Some, None, true, Err, length, slice_get, IfOk, IfErr, OnOk, OnErr};
+ghost use Rattle.std.specs.Prelude.{◌≡◌, ◌≢◌, ◌↔◌, ◌≤◌, ◌<◌, ◌^◌, ◌+◌, ◌-◌, ◌⊎◌, ◌&&◌, ◌||◌, ◌++◌, ◌∷◌, [], ℕ, List, Some, None, true, Err, length, slice_get, IfOk, IfErr, IfSome, OnOk, OnErr};
 ghost use Rattle.nob_ids.specs.Names.{IsSpace};
 ghost use Rattle.nob_model.specs.Next as next;
 ghost use Rattle.nob_space.specs.Spaces.{StandsFor};

@@ -5,5 +5,5 @@ use Rattle.nob_keeper.proofs.closing.mark.Given as goal
 
 abbrev pub invariant-loop-receipt : goal.invariant-loop-receipt
 invariant-loop-receipt l =
-    (length l.marks.items ≡ length l.entries)
-    × ((before : List ReceiptOf) → closing.AreMarks l.fn.marks.items l.entries before → closing.AreMarks l.marks.items l.entries (before ++ take l.receipt-index l.receipts))
+    (length l.marks.items ≡ length l.kept.entries)
+    × ((before : List ReceiptOf) → closing.AreMarks l.fn.marks.items l.kept.entries before → closing.AreMarks l.marks.items l.kept.entries (before ++ take l.receipt-index l.receipts))

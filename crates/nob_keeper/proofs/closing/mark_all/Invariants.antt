@@ -5,5 +5,5 @@ use Rattle.nob_keeper.proofs.closing.mark_all.Given as goal
 
 abbrev pub invariant-loop-seat : goal.invariant-loop-seat
 invariant-loop-seat l =
-    (length l.marks.items ≡ length l.entries)
-    × ((before : List ReceiptOf) → closing.AreMarks l.fn.marks.items l.entries before → closing.AreMarks l.marks.items l.entries (before ++ closing.receipts_of (take l.seat-index l.seats)))
+    (length l.marks.items ≡ length l.kept.entries)
+    × ((before : List ReceiptOf) → closing.AreMarks l.fn.marks.items l.kept.entries before → closing.AreMarks l.marks.items l.kept.entries (before ++ closing.receipts_of (take l.seat-index l.seats)))

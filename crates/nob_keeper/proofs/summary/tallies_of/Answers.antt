@@ -1,4 +1,5 @@
 use Rattle.std.proofs.Common.{◌≡◌, ◌-◌, ◌++◌, ◌∷◌, [], ℕ, List, sym, ap, ◌∙◌, arith}
+use Rattle.nob_keeper.specs.Segments as segments
 use Rattle.nob_keeper.specs.Summaries as summaries
 use Rattle.nob_keeper.specs.declared.summary.PeerTally.{PeerTally}
 use Rattle.nob_keeper.proofs.Summaries.{tallies_next}
@@ -12,4 +13,4 @@ loop-number-preserved c =
 pub returns : goal.returns
 returns c =
     let last : c.loop-number.number - 1 ≡ c.args.kept.now.n = omega (arith, c.loop-number-test.false, c.loop-number.auto.number-end, c.get-end.ensures.value, c.n.ensures) in
-    c.loop-number.invariant ∙ ap (λ (n : ℕ). summaries.tallies_among c.args.kept.now (summaries.spaces_to n)) last
+    c.loop-number.invariant ∙ ap (λ (n : ℕ). summaries.tallies_among c.args.kept.now (segments.spaces_to n)) last
