@@ -54,15 +54,8 @@ fn say_of(alloc: Global, scene: Scene, places: Vec<Place>, text: &mut Vec<u8>) -
     let mut chains = Vec::new(alloc);
     let mut summaries = Vec::new(alloc);
     let (stop, score) = summed(places, &mut chains, &mut summaries);
-    say(
-        alloc,
-        scene,
-        stop,
-        score,
-        chains,
-        summaries.as_slice(),
-        text,
-    )
+    let summaries = summaries.as_slice();
+    say(alloc, scene, stop, score, chains, summaries, text)
 }
 
 // Why the scene stops, if a space stopped or there is no memory for what they left, and what callers

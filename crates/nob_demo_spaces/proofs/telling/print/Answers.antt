@@ -1,4 +1,4 @@
-use Rattle.std.proofs.Common.{subst, ◌∙◌}
+use Rattle.std.proofs.Common.{ap, subst, ◌∙◌}
 use Rattle.std.proofs.lemmas.List.Elements.{All-more}
 use Rattle.nob_chain.specs.declared.fault.ChainFault.{ChainFault}
 use Rattle.nob_chain.specs.declared.fault.ChainError.TheVariants as chain_errors
@@ -20,4 +20,4 @@ loop-chain-preserved c =
 pub returns-in-Err-Fault : goal.returns-in-Err-Fault
 returns-in-Err-Fault c =
     error_printed c.args.chains.now c.loop-chain.chain-index c.chain-item.result c.in-Err-Fault.fault _ c.in-Err-Fault.field-0 c.loop-chain-test.true c.chain-item.is c.in-Err-Fault.field-0-is c.in-Err-Fault.ensures
-    (c.in_ok-line-in-Err-Fault.ensures.items_if_clones_equal (λ x y same. same) ∙ c.refusal_line.ensures)
+    (c.in_ok-line-in-Err-Fault.ensures.items_if_clones_equal (λ x y same. same) ∙ c.refusal_line.ensures ∙ ap (λ (fault : ChainFault). refusal_line (chain_errors.Fault fault)) c.in-Err-Fault.fault-is)
