@@ -85,13 +85,15 @@ impl Place {
 
 // How many frames a node gave, as far as it kept what it did.
 fn frames_in(record: &Record) -> u64 {
-    let Record::Trace(trace) = record else {
+    let Record::Chain(chain) = record else {
         return 0;
     };
     let mut count: u64 = 0;
-    for entry in trace.entries.as_slice() {
-        if let Ok(Answer::Frames(frames)) = &entry.result {
-            count = count.saturating_add(frames.as_slice().len() as u64);
+    for segment in chain.parts().segments.as_slice() {
+        for entry in segment.entries.as_slice() {
+            if let Ok(Answer::Frames(frames)) = &entry.result {
+                count = count.saturating_add(frames.as_slice().len() as u64);
+            }
         }
     }
     count

@@ -24,9 +24,9 @@ taken end = got_by end.pass
 -- whether an error of the keeper is want of memory
 abbrev pub is_memory : KeeperError → Bool
 is_memory errors.OutOfMemory = true
-is_memory errors.TraceFull = false
 is_memory errors.Stamp = false
 is_memory errors.Seats = false
+is_memory errors.Size = false
 is_memory errors.NoTrace = false
 
 -- a job's number, and the index of its object

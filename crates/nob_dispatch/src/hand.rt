@@ -199,9 +199,9 @@ pub(crate) fn is_memory(error: KeeperError) -> bool
 {
     match error {
         KeeperError::OutOfMemory => true,
-        KeeperError::TraceFull => false,
         KeeperError::Stamp => false,
         KeeperError::Seats => false,
+        KeeperError::Size => false,
         KeeperError::NoTrace => false,
     }
 }

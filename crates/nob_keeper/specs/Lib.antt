@@ -1,5 +1,6 @@
 pub mod Staying
 pub mod Accounts
+pub mod Segments
 pub mod Spots
 pub mod Receipts
 pub mod Seats

@@ -5,8 +5,9 @@ use Rattle.nob_model_types.specs.declared.event.Event.{Event}
 use Rattle.nob_model.specs.Right.{right}
 use Rattle.nob_trace.specs.declared.stamped.Stamped.{Stamped}
 use Rattle.nob_trace.specs.Stamps.{last_stamp}
+use Rattle.nob_model_traces.specs.Traces.{journal_at}
 use Rattle.nob_keeper.specs.declared.receipt.Receipt.{Receipt}
-use Rattle.nob_keeper.specs.Accounts.{Account, list_of, next_stamp}
+use Rattle.nob_keeper.specs.Accounts.{Account, next_stamp}
 
 -- the entry that a receipt tells of
 abbrev pub entry_of : Receipt → Stamped
@@ -21,7 +22,7 @@ pub record IsBehind (id n : ℕ) (limits : Limits) (entries : List Stamped) (eve
   pub place : receipt.place ≡ length entries + 1
   pub stamp : receipt.stamp ≡ next_stamp (last_stamp 0 entries) seen
   pub event_is : receipt.event ≡ event
-  pub result_is : receipt.result ≡ right id n limits (list_of id entries) event
+  pub result_is : receipt.result ≡ right id n limits (journal_at id entries) event
 
 -- a receipt is that of the next entry of an account
 abbrev pub IsNext : Account → Event → ℕ → Receipt → Type 0

@@ -2,7 +2,6 @@
 use Rattle.std.specs.Prelude.{◌≡◌, ◌≤◌, ◌-◌, ℕ, nat_lt, List, [], ◌∷◌, ◌++◌, length, map, Some, slice_get, if◌then◌else◌}
 use Rattle.std.specs.List.{AllByRecursion}
 use lib.ListN.{set}
-use Rattle.nob_past.specs.Lists.{Listed}
 use Rattle.nob_trace.specs.declared.stamped.Stamped.{Stamped}
 use Rattle.nob_keeper.specs.declared.keep.Keep.{Keep}
 use Rattle.nob_keeper.specs.declared.keep.Keep.TheVariants as keeps
@@ -28,7 +27,7 @@ IsAmong places place = (spot : ℕ) × (slice_get places spot ≡ Some place)
 abbrev pub put_at : (spot place : ℕ) → List ℕ → List ℕ
 put_at spot place places = if nat_lt spot (length places) then set places spot place else places ++ place ∷ []
 
--- what has bytes: all entries, and none is noted; or the noted ones alone
-abbrev pub AreKept : Keep → Listed Stamped → List Noted → Type 0
-AreKept keeps.All entries noted = (entries.gone ≡ 0) × (noted ≡ [])
-AreKept keeps.Nothing entries noted = (entries.gone ≡ length entries.items) × AreNoted entries.items noted
+-- the entries that stay: none where all are kept
+abbrev pub AreStaying : Keep → List Stamped → List Noted → Type 0
+AreStaying keeps.All entries noted = noted ≡ []
+AreStaying keeps.Nothing entries noted = AreNoted entries noted

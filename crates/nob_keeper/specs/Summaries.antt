@@ -1,15 +1,16 @@
 -- What is left of a space of which no trace is kept.
-use Rattle.std.specs.Prelude.{◌≡◌, ℕ, ◌+◌, Bool, true, false, List, [], ◌∷◌, ◌++◌, length, map, filter, Option, Some, None, if◌then◌else◌}
-use Prim.Native.Nat.{zero, suc}
+use Rattle.std.specs.Prelude.{◌≡◌, ℕ, Bool, true, false, List, length, map, filter, Option, Some, None, if◌then◌else◌}
 use Rattle.nob_model_types.specs.Sessions.{is_peer}
 use Rattle.nob_model_types.specs.declared.tally.Tally.{Tally}
 use Rattle.nob_model_types.specs.declared.tally.Backlog.{Backlog}
 use Rattle.nob_model.specs.Tallies.{tally, live_count, backlog}
 use Rattle.nob_trace.specs.Stamps.{last_stamp}
-use Rattle.nob_trace.specs.declared.trace.Trace.{Trace}
-use Rattle.nob_keeper.specs.Accounts.{Account, IsAccount, account_in, history_in}
+use Rattle.nob_chain.specs.Chains.{joined}
+use Rattle.nob_chain.specs.declared.chain.ChainParts.{ChainParts}
+use Rattle.nob_keeper.specs.Accounts.{Account, IsAccount, history_in}
 use Rattle.nob_keeper.specs.Closing.{AreOf, receipts_of}
 use Rattle.nob_keeper.specs.Seats.{HasAll}
+use Rattle.nob_keeper.specs.Segments.{IsSealedChain, spaces_to}
 use Rattle.nob_keeper.specs.declared.receipt.Receipt.{Receipt}
 use Rattle.nob_keeper.specs.declared.summary.PeerTally.{PeerTally}
 use Rattle.nob_keeper.specs.declared.summary.Summary.{Summary}
@@ -23,11 +24,6 @@ tally_in account peer = if is_peer account.id account.n peer then Some (tally pe
 -- the tally of the session with a peer, with the peer
 abbrev pub tally_with : Account → ℕ → PeerTally
 tally_with account peer = record { peer = peer; tally = tally peer (history_in account) }
-
--- the spaces from 1 to n
-abbrev pub spaces_to : ℕ → List ℕ
-spaces_to zero = []
-spaces_to (suc n) = spaces_to n ++ (n + 1) ∷ []
 
 -- the tallies of the sessions with the peers among some spaces, in their order
 abbrev pub tallies_among : Account → List ℕ → List PeerTally
@@ -58,17 +54,17 @@ IsBacklog answer = (account : Account) × IsAccount account × (answer ≡ backl
 abbrev pub IsSummaryOf : List (List Receipt) → Summary → Type 0
 IsSummaryOf seats summary = (account : Account) × IsAccount account × HasAll account.entries seats × IsSummary account summary
 
--- whether a record is a trace
-abbrev pub is_trace : Record → Bool
-is_trace (records.Trace trace) = true
-is_trace (records.Summary summary) = false
+-- whether a record is a chain
+abbrev pub is_chain : Record → Bool
+is_chain (records.Chain chain) = true
+is_chain (records.Summary summary) = false
 
--- the trace of a record, if it has one
-abbrev pub trace_in : Record → Option Trace
-trace_in (records.Trace trace) = Some trace
-trace_in (records.Summary summary) = None
+-- the chain of a record, if it has one
+abbrev pub chain_in : Record → Option ChainParts
+chain_in (records.Chain chain) = Some chain
+chain_in (records.Summary summary) = None
 
--- a record is a trace of which the receipts of these seats are those of the entries, each once; or a summary of right entries of which the newest receipts of these seats are told
+-- a record is a chain of right entries, all sealed, of which these seats have the receipts, each once; or a summary of right entries of which the newest receipts of these seats are told
 abbrev pub IsRecordOf : List (List Receipt) → Record → Type 0
-IsRecordOf seats (records.Trace trace) = AreOf trace.entries (receipts_of seats) × IsAccount (account_in trace)
+IsRecordOf seats (records.Chain chain) = AreOf (joined chain).entries (receipts_of seats) × IsSealedChain chain
 IsRecordOf seats (records.Summary summary) = IsSummaryOf seats summary

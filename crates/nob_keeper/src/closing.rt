@@ -4,23 +4,26 @@ ghost use Rattle.std.specs.Prelude.{◌≡◌, ◌↔◌, ◌⊎◌, ◌++◌, �
 ghost use Rattle.std.specs.List.{AllByRecursion};
 ghost use Rattle.nob_keeper.specs.Closing as closing;
 ghost use Rattle.nob_keeper.specs.Receipts.{Told, entry_of};
+ghost use Rattle.nob_keeper.specs.declared.keep.Keep.TheVariants as keeps;
 ghost use Rattle.nob_keeper.specs.declared.receipt.Receipt.{Receipt as ReceiptOf};
 
 use crate::error::KeeperError;
+use crate::kept::Kept;
 use crate::receipt::Receipt;
 use crate::seat::Seat;
 use nob_model::{same_event, same_result};
 use nob_trace::Stamped;
 use std::alloc::{AllocError, Global};
 
-// Whether a receipt is told of a trace's entries. It costs what the receipt owns.
-pub(crate) fn is_told(receipt: &Receipt, entries: &[Stamped]) -> bool
-    ensures { (result ≡ true) ↔ Told receipt.now entries.now }
+// Whether a receipt is told of the entries, all of which are kept. It costs what the receipt owns.
+pub(crate) fn is_told(receipt: &Receipt, kept: &Kept) -> bool
+    requires { kept.now.keep ≡ keeps.All }
+    ensures { (result ≡ true) ↔ Told receipt.now kept.now.entries }
 {
     if receipt.place == 0 {
         return false;
     }
-    match entries.get((receipt.place - 1) as usize) {
+    match kept.entry_at(receipt.place - 1) {
         Some(entry) => is_entry_of(receipt, entry),
         None => false,
     }
@@ -37,18 +40,19 @@ pub(crate) fn is_entry_of(receipt: &Receipt, entry: &Stamped) -> bool
 
 // Marks the places of receipts. False where one isn't told of the entries, or is at a place that is
 // marked already.
-fn mark(marks: &mut Vec<bool>, entries: &[Stamped], receipts: &[Receipt]) -> bool
-    requires { length marks.old.items ≡ length entries.now }
+fn mark(marks: &mut Vec<bool>, kept: &Kept, receipts: &[Receipt]) -> bool
+    requires all { kept.now.keep ≡ keeps.All }
+    requires len { length marks.old.items ≡ length kept.now.entries }
     ensures len { length marks.new.items ≡ length marks.old.items }
     ensures marks { (before : List ReceiptOf) → result ≡ true
-        → closing.AreMarks marks.old.items entries.now before
-        → closing.AreMarks marks.new.items entries.now (before ++ receipts.now) }
+        → closing.AreMarks marks.old.items kept.now.entries before
+        → closing.AreMarks marks.new.items kept.now.entries (before ++ receipts.now) }
     ensures fault { (before later : List ReceiptOf) → result ≡ false
-        → closing.AreMarks marks.old.items entries.now before
-        → closing.AreOf entries.now (before ++ (receipts.now ++ later)) → ⊥ }
+        → closing.AreMarks marks.old.items kept.now.entries before
+        → closing.AreOf kept.now.entries (before ++ (receipts.now ++ later)) → ⊥ }
 {
     for receipt in receipts {
-        if !is_told(receipt, entries) {
+        if !is_told(receipt, kept) {
             return false;
         }
         let place = (receipt.place - 1) as usize;
@@ -62,16 +66,17 @@ fn mark(marks: &mut Vec<bool>, entries: &[Stamped], receipts: &[Receipt]) -> boo
 
 // Marks the places of the receipts of all seats: K4 where one is marked already or isn't told, or
 // else a seat has let receipts go.
-fn mark_all(marks: &mut Vec<bool>, entries: &[Stamped], seats: &[Seat]) -> Result<(), KeeperError>
-    requires { length marks.old.items ≡ length entries.now }
+fn mark_all(marks: &mut Vec<bool>, kept: &Kept, seats: &[Seat]) -> Result<(), KeeperError>
+    requires all { kept.now.keep ≡ keeps.All }
+    requires len { length marks.old.items ≡ length kept.now.entries }
     ensures len { length marks.new.items ≡ length marks.old.items }
     ensures marks { (before : List ReceiptOf) → OnOk result
-        (closing.AreMarks marks.old.items entries.now before
-        → closing.AreMarks marks.new.items entries.now (before ++ closing.receipts_of seats.now)) }
+        (closing.AreMarks marks.old.items kept.now.entries before
+        → closing.AreMarks marks.new.items kept.now.entries (before ++ closing.receipts_of seats.now)) }
     ensures fault { (before later : List ReceiptOf) → IfErr result (λ error.
         error ≡ KeeperError.Seats
-        → closing.AreMarks marks.old.items entries.now before
-        → closing.AreOf entries.now (before ++ (closing.receipts_of seats.now ++ later)) → ⊥) }
+        → closing.AreMarks marks.old.items kept.now.entries before
+        → closing.AreOf kept.now.entries (before ++ (closing.receipts_of seats.now ++ later)) → ⊥) }
     ensures only { IfErr result (λ error. (error ≡ KeeperError.Seats)
         ⊎ (error ≡ KeeperError.NoTrace)) }
 {
@@ -79,7 +84,7 @@ fn mark_all(marks: &mut Vec<bool>, entries: &[Stamped], seats: &[Seat]) -> Resul
         let Some(receipts) = seat.whole() else {
             return Err(KeeperError::NoTrace);
         };
-        if !mark(marks, entries, receipts) {
+        if !mark(marks, kept, receipts) {
             return Err(KeeperError::Seats);
         }
     }
@@ -108,18 +113,19 @@ fn are_all_set(marks: &[bool]) -> bool
     true
 }
 
-// Whether the receipts of seats are those of a trace's entries, each once.
-pub(crate) fn judge(alloc: Global, entries: &[Stamped], seats: &[Seat]) -> Result<(), KeeperError>
-    ensures ok { OnOk result (closing.AreOf entries.now (closing.receipts_of seats.now)) }
+// Whether the receipts of seats are those of the entries, all of which are kept, each once.
+pub(crate) fn judge(alloc: Global, kept: &Kept, seats: &[Seat]) -> Result<(), KeeperError>
+    requires all { kept.now.keep ≡ keeps.All }
+    ensures ok { OnOk result (closing.AreOf kept.now.entries (closing.receipts_of seats.now)) }
     ensures seats { IfErr result (λ error. error ≡ KeeperError.Seats
-        → closing.AreOf entries.now (closing.receipts_of seats.now) → ⊥) }
+        → closing.AreOf kept.now.entries (closing.receipts_of seats.now) → ⊥) }
     ensures only { IfErr result (λ error. (error ≡ KeeperError.Seats)
         ⊎ ((error ≡ KeeperError.OutOfMemory) ⊎ (error ≡ KeeperError.NoTrace))) }
 {
-    let Ok(mut marks) = unmarked(alloc, entries.len()) else {
+    let Ok(mut marks) = unmarked(alloc, kept.len() as usize) else {
         return Err(KeeperError::OutOfMemory);
     };
-    match mark_all(&mut marks, entries, seats) {
+    match mark_all(&mut marks, kept, seats) {
         Ok(()) => {
             if !are_all_set(marks.as_slice()) {
                 return Err(KeeperError::Seats);

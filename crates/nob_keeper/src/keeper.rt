@@ -1,12 +1,12 @@
 //! A keeper: a space and its trace under one lock.
 
 ghost use Rattle.std.specs.Prelude.{◌≡◌, ◌⊎◌, ◌≤◌, [], OnOk, OnErr, IfOk, IfErr, IfSome, vec_len};
-ghost use Rattle.nob_frame.specs.declared.version.Version.TheVariants as versions;
 ghost use Rattle.nob_model_types.specs.declared.event.Event.TheVariants as events;
 ghost use Rattle.nob_space.specs.Spaces.{StandsFor};
-ghost use Rattle.nob_keeper.specs.Accounts as accounts;
+ghost use Rattle.nob_chain.specs.Chains.{joined};
 ghost use Rattle.nob_keeper.specs.Closing as closing;
 ghost use Rattle.nob_keeper.specs.Seats as seats;
+ghost use Rattle.nob_keeper.specs.Segments as segments;
 ghost use Rattle.nob_keeper.specs.Summaries as summaries;
 ghost use Rattle.nob_keeper.specs.declared.keep.Keep.TheVariants as keeps;
 
@@ -14,15 +14,16 @@ use crate::desk::{Desk, REPLY_PLACES, reply_place};
 use crate::error::KeeperError;
 use crate::held::{Chores, Dues, Held, Look, Notice, Wake};
 use crate::keep::Keep;
-use crate::kept::Kept;
+use crate::kept::{Kept, begun};
 use crate::locking::lock_soon;
 use crate::seat::Seat;
 use crate::summary::Summary;
+use crate::trail::{LARGEST_SIZE, is_size};
 use crate::waking::{Prospects, WorkKind};
+use nob_chain::Chain;
 use nob_ids::{CallNo, SpaceId};
 use nob_model_types::{Backlog, Event, Tally};
 use nob_space::{Space, Work};
-use nob_trace::Trace;
 use std::alloc::Global;
 use std::sync::{Condvar, Mutex, Wait};
 
@@ -43,7 +44,7 @@ pub struct Keeper {
 }
 
 impl Keeper {
-    /// A keeper of a new space, which keeps all entries. Only memory fails it, and then the space is
+    /// A keeper of a new space, which keeps all entries, in segments of 65,536. Only memory fails it, and then the space is
     /// handed back. The caller's conditions: the space has done nothing, and it is one of the spaces
     /// that there are.
     pub fn new(alloc: Global, space: Space) -> Result<Keeper, Space>
@@ -62,22 +63,30 @@ impl Keeper {
         ensures keep { IfOk result (λ keeper. keeper.keep ≡ keep) }
         ensures back { IfErr result (λ back. back ≡ space) }
     {
-        let Some(replies) = reply_places(alloc) else {
-            return Err(space);
-        };
-        let kept = Kept::keeping(alloc, space, keep)?;
-        Ok(Keeper {
-            alloc,
-            keep,
-            held: Mutex::new(Held {
-                kept,
-                desk: Desk::new(alloc),
-            }),
-            to_send: Condvar::new(),
-            to_care: Condvar::new(),
-            to_claim: Condvar::new(),
-            replies,
-        })
+        keeper_of(alloc, space, keep, LARGEST_SIZE)
+    }
+
+    /// The same as `new`, with segments of so many entries: K5 where that isn't 1 to 65,536, before
+    /// memory is asked for, else K2, and then the space is handed back.
+    pub fn with_segment(
+        alloc: Global,
+        space: Space,
+        size: u32,
+    ) -> Result<Keeper, (KeeperError, Space)>
+        requires new { StandsFor space [] }
+        requires some { 1 ≤ space.n }
+        ensures keep { IfOk result (λ keeper. keeper.keep ≡ keeps.All) }
+        ensures size { OnOk result (segments.IsSize size) }
+        ensures fault { IfErr result (λ back. segments.RefusesSize size back.0) }
+        ensures back { IfErr result (λ back. back.1 ≡ space) }
+    {
+        if !is_size(size) {
+            return Err((KeeperError::Size, space));
+        }
+        match keeper_of(alloc, space, Keep::All, size) {
+            Ok(keeper) => Ok(keeper),
+            Err(space) => Err((KeeperError::OutOfMemory, space)),
+        }
     }
 
     /// A seat for one more caller. It takes no memory.
@@ -89,10 +98,11 @@ impl Keeper {
 
     /// One call: an event of the space, whose receipt is added to the seat, `newest` of it. The
     /// stamp is one more than the greater of the trace's last stamp and `seen`. A refusal of the
-    /// space is a result too. K4 where the trace hasn't the seat's last receipt, else K1 where it
-    /// is full, else K3 where `seen` is above 2^60, else K2; then nothing has changed. It waits for
+    /// space is a result too. K4 where the trace hasn't the seat's last receipt, else K3 where its
+    /// last stamp is above 2^62 or `seen` is above 2^60, else K2; then nothing has changed. It waits for
     /// the lock alone, and under it costs what the event costs at its space, two copies of the
-    /// event, one of what the answer owns, and a look at the seat's last receipt. Who may have work
+    /// event, one of what the answer owns, and a look at the seat's last receipt; an entry that fills
+    /// a segment costs a look at each session more. Who may have work
     /// by it is woken once the lock is let go.
     pub fn call<R: Wait>(
         &self,
@@ -248,17 +258,18 @@ impl Keeper {
         lock_soon(rt, &self.held).kept.backlog()
     }
 
-    /// Ends the keeper and gives the trace, of version 2, where the seats' receipts are those of its entries,
-    /// each once: else K4, or K2 where memory is wanted, and all is handed back; so it is where the
-    /// entries or the receipts of a seat weren't kept. Linear in the entries and what they own.
-    pub fn close_with(self, seats: Vec<Seat>) -> Result<Trace, (KeeperError, Keeper, Vec<Seat>)>
-        ensures receipts { IfOk result (λ trace.
-            closing.AreOf trace.entries (closing.receipts_of seats.items)) }
-        ensures account { IfOk result (λ trace. accounts.IsAccount (accounts.account_in trace)) }
+    /// Ends the keeper and gives the chain of all entries, where the seats' receipts are those of its
+    /// entries, each once: else K4, or K2 where memory is wanted, and all is handed back; so it is
+    /// where the entries or the receipts of a seat weren't kept. What isn't sealed yet is sealed.
+    /// Linear in the entries and what they own.
+    pub fn close_with(self, seats: Vec<Seat>) -> Result<Chain, (KeeperError, Keeper, Vec<Seat>)>
+        ensures receipts { IfOk result (λ chain.
+            closing.AreOf (joined chain).entries (closing.receipts_of seats.items)) }
+        ensures sealed { IfOk result (λ chain. segments.IsSealedChain chain) }
+        ensures filled { IfOk result (λ chain. segments.AreSomeFilled chain.segments) }
         ensures unkept { self.keep ≡ keeps.Nothing → IfErr result (λ back.
             back.0 ≡ KeeperError.NoTrace) }
         ensures ended { OnOk result (self.keep ≡ keeps.All) }
-        ensures version { IfOk result (λ trace. trace.version ≡ versions.Two) }
         ensures back { IfErr result (λ back. back.2.items ≡ seats.items) }
         ensures only { IfErr result (λ back. (back.0 ≡ KeeperError.Seats)
             ⊎ ((back.0 ≡ KeeperError.OutOfMemory) ⊎ (back.0 ≡ KeeperError.NoTrace))) }
@@ -277,7 +288,7 @@ impl Keeper {
         } = self;
         let Held { kept, desk } = held.into_inner();
         match kept.close_with(seats) {
-            Ok(trace) => Ok(trace),
+            Ok(chain) => Ok(chain),
             Err((error, kept, seats)) => Err((
                 error,
                 Keeper {
@@ -388,4 +399,31 @@ fn reply_places(alloc: Global) -> Option<Vec<Condvar>>
         };
     }
     Some(places)
+}
+
+// A keeper of a new space, which keeps all entries, in segments of so many, or nothing. Only memory
+// fails it, and then the space is handed back.
+fn keeper_of(alloc: Global, space: Space, keep: Keep, size: u32) -> Result<Keeper, Space>
+    requires new { StandsFor space [] }
+    requires some { 1 ≤ space.n }
+    requires size { segments.IsSize size }
+    ensures keep { IfOk result (λ keeper. keeper.keep ≡ keep) }
+    ensures back { IfErr result (λ back. back ≡ space) }
+{
+    let Some(replies) = reply_places(alloc) else {
+        return Err(space);
+    };
+    let kept = begun(alloc, space, keep, size)?;
+    Ok(Keeper {
+        alloc,
+        keep,
+        held: Mutex::new(Held {
+            kept,
+            desk: Desk::new(alloc),
+        }),
+        to_send: Condvar::new(),
+        to_care: Condvar::new(),
+        to_claim: Condvar::new(),
+        replies,
+    })
 }

@@ -2,18 +2,15 @@
 
 ghost use Rattle.std.specs.Prelude.{◌≡◌, ◌≢◌, ◌↔◌, ◌≤◌, ◌<◌, ◌^◌, ◌+◌, ◌-◌, ◌⊎◌, ◌&&◌, ◌||◌, ◌++◌, ◌∷◌, [], ℕ, List, Some, None, true, Err, length, slice_get, IfOk, IfErr, OnOk, OnErr};
 ghost use Rattle.nob_ids.specs.Names.{IsSpace};
-ghost use Rattle.nob_frame.specs.declared.version.Version.TheVariants as versions;
-ghost use Rattle.nob_model_types.specs.declared.entry.Entry.{Entry as EntryOf};
 ghost use Rattle.nob_model.specs.Next as next;
-ghost use Rattle.nob_model.specs.Right.{right};
-ghost use Rattle.nob_model.specs.Lists.{AreRight};
-ghost use Rattle.nob_space.specs.Spaces.{StandsFor, SameSpace};
+ghost use Rattle.nob_space.specs.Spaces.{StandsFor};
 ghost use Rattle.nob_space_state.specs.Dues as dues;
-ghost use Rattle.nob_trace.specs.Stamps as stamps;
+ghost use Rattle.nob_chain.specs.Chains.{joined};
 ghost use Rattle.nob_keeper.specs.Accounts as accounts;
 ghost use Rattle.nob_keeper.specs.Closing as closing;
 ghost use Rattle.nob_keeper.specs.Receipts as receipts;
 ghost use Rattle.nob_model.specs.Tallies as tallies;
+ghost use Rattle.nob_keeper.specs.Segments as segments;
 ghost use Rattle.nob_keeper.specs.Seats.{AreAllThere, Has, HasAll, IsThere};
 ghost use Rattle.nob_keeper.specs.Summaries as summaries;
 ghost use Rattle.nob_keeper.specs.Spots as spots;
@@ -28,42 +25,32 @@ use crate::noted::{Noted, find, make_room, put};
 use crate::receipt::Receipt;
 use crate::seat::Seat;
 use crate::summary::{Summary, check_all, tallies_of};
+use crate::trail::{
+    LARGEST_SIZE, Trail, admit, chain_of, enter, entry_at, is_last, is_size, new_trail, room_to_end,
+};
 use crate::waking::{Prospects, Wakes, is_new};
-use nob_frame::Version;
+use nob_chain::{Chain, Segment};
 use nob_ids::{CallNo, SpaceId};
-use nob_model_types::{Answer, Backlog, Event, Here, List, Refusal, Tally};
-use nob_past::Past;
-use nob_space::{Due, Space, SpaceError, Work};
-use nob_trace::{Entries, Stamped, Trace};
+use nob_model_types::{Backlog, Event, Here, List, Tally};
+use nob_space::{Due, Space, Work};
+use nob_trace::Stamped;
 use std::alloc::{AllocError, Global};
 use std::marker::Model;
-
-/// So many entries has a trace that is full.
-const MOST_ENTRIES: u64 = 1 << 20;
-
-/// The greatest stamp that a caller may have seen.
-const LAST_SEEN: u64 = 1 << 60;
 
 /// A space with its trace: what it was asked since it was new, and what it answered. Contracts see
 /// its number, how many spaces there are, its limits and its entries, whose results are right: all
 /// of them, those too that aren't kept. It holds pins, so it can't be let go: `shut` ends it.
 pub struct Kept {
     space: Space,
-    n: SpaceId,
-    keep: Keep,
-    // The first first. All have bytes, or none.
-    entries: Past<Stamped>,
-    // The stamp of the last entry, 0 where there is none.
-    last: u64,
+    trail: Trail,
     // The newest entry of each seat, where no others are kept.
     noted: Vec<Noted>,
 }
 
 impl Model for Kept {
-    ghost use Rattle.std.specs.Prelude.{◌≡◌};
-    ghost use Rattle.nob_trace.specs.Stamps.{last_stamp};
-    ghost use Rattle.nob_keeper.specs.Accounts.{Account, IsKept, account_of};
-    ghost use Rattle.nob_keeper.specs.Staying.{AreKept, places};
+    ghost use Rattle.nob_keeper.specs.Accounts.{Account, account_of};
+    ghost use Rattle.nob_keeper.specs.Segments.{IsTrail};
+    ghost use Rattle.nob_keeper.specs.Staying.{AreStaying, places};
 
     ghost Value = { Account };
 
@@ -72,24 +59,22 @@ impl Model for Kept {
 
     ghost coded = { Prim.hlevel (codes, trees_code) };
 
-    ghost view = { λ kept. account_of kept.space kept.keep kept.entries.items
-        (places kept.noted.items) };
+    ghost view = { λ kept. account_of kept.space kept.trail.keep kept.trail.size
+        kept.trail.entries.items (places kept.noted.items) };
 
-    ghost invariant = { λ kept. (kept.n ≡ kept.space.n)
-        × IsKept kept.space (account_of kept.space kept.keep kept.entries.items
-        (places kept.noted.items))
-        × (kept.last ≡ last_stamp 0 kept.entries.items)
-        × AreKept kept.keep kept.entries kept.noted.items };
+    ghost invariant = { λ kept. IsTrail kept.space kept.trail
+        × AreStaying kept.trail.keep kept.trail.entries.items kept.noted.items };
 }
 
 impl Kept {
-    /// A new space with its trace, which has no entry, and all of which is kept. Only memory fails
-    /// it, and then the space is handed back. The caller's conditions: the space has done nothing,
-    /// and it is one of the spaces that there are.
+    /// A new space with its trace, which has no entry, and all of which is kept, in segments of 65,536
+    /// entries. Only memory fails it, and then the space is handed back. The caller's conditions: the
+    /// space has done nothing, and it is one of the spaces that there are.
     pub fn new(alloc: Global, space: Space) -> Result<Kept, Space>
         requires new { StandsFor space [] }
         requires some { 1 ≤ space.n }
-        ensures kept { IfOk result (λ kept. kept ≡ accounts.account_of space keeps.All [] []) }
+        ensures kept { IfOk result (λ kept. kept
+            ≡ accounts.account_of space keeps.All accounts.largest_size [] []) }
         ensures back { IfErr result (λ back. back ≡ space) }
     {
         Kept::keeping(alloc, space, Keep::All)
@@ -99,65 +84,85 @@ impl Kept {
     pub fn keeping(alloc: Global, space: Space, keep: Keep) -> Result<Kept, Space>
         requires new { StandsFor space [] }
         requires some { 1 ≤ space.n }
-        ensures kept { IfOk result (λ kept. kept ≡ accounts.account_of space keep [] []) }
+        ensures kept { IfOk result (λ kept. kept
+            ≡ accounts.account_of space keep accounts.largest_size [] []) }
         ensures back { IfErr result (λ back. back ≡ space) }
     {
-        let Some(n) = SpaceId::new(space.n()) else {
-            return Err(space);
-        };
-        Ok(Kept {
-            space,
-            n,
-            keep,
-            entries: Past::new(alloc),
-            last: 0,
-            noted: Vec::new(alloc),
-        })
+        begun(alloc, space, keep, LARGEST_SIZE)
+    }
+
+    /// The same as `new`, with segments of so many entries: K5 where that isn't 1 to 65,536, before
+    /// memory is asked for, else K2, and then the space is handed back.
+    pub fn with_segment(
+        alloc: Global,
+        space: Space,
+        size: u32,
+    ) -> Result<Kept, (KeeperError, Space)>
+        requires new { StandsFor space [] }
+        requires some { 1 ≤ space.n }
+        ensures kept { IfOk result (λ kept. kept
+            ≡ accounts.account_of space keeps.All size [] []) }
+        ensures size { OnOk result (segments.IsSize size) }
+        ensures fault { IfErr result (λ back. segments.RefusesSize size back.0) }
+        ensures back { IfErr result (λ back. back.1 ≡ space) }
+    {
+        if !is_size(size) {
+            return Err((KeeperError::Size, space));
+        }
+        match begun(alloc, space, Keep::All, size) {
+            Ok(kept) => Ok(kept),
+            Err(space) => Err((KeeperError::OutOfMemory, space)),
+        }
     }
 
     /// What is kept of the entries.
     pub fn keep(&self) -> Keep
         ensures { result ≡ self.now.keep }
     {
-        self.keep
+        self.trail.keep
     }
 
-    /// The entries of the trace that are kept, the first first: all, or none.
-    pub fn entries(&self) -> &[Stamped]
-        ensures entries { self.now.keep ≡ keeps.All → result.now ≡ self.now.entries }
-        ensures none { self.now.keep ≡ keeps.Nothing → result.now ≡ [] }
-        ensures right { AreRight self.now.id self.now.n self.now.limits
-            (accounts.list_of self.now.id self.now.entries) }
-        ensures rise { stamps.Rise 0 self.now.entries }
+    /// The segments that are sealed, the first first, and the entries behind them, which aren't:
+    /// together all entries, where all are kept, and else none.
+    pub fn segments(&self) -> (&[Segment], &[Stamped])
+        ensures account { accounts.IsAccount self.now }
+        ensures cut { self.now.keep ≡ keeps.All → segments.IsCut self.now.id self.now.n
+            self.now.size self.now.entries result.0.now result.1.now }
+        ensures none { self.now.keep ≡ keeps.Nothing
+            → (result.0.now ≡ []) × (result.1.now ≡ []) }
     {
-        self.entries.kept()
+        (self.trail.sealed.as_slice(), self.trail.entries.kept())
+    }
+
+    // The entry at a place, counted from 0, where all are kept.
+    pub(crate) fn entry_at(&self, place: u64) -> Option<&Stamped>
+        requires all { self.now.keep ≡ keeps.All }
+        ensures some { IfSome result (λ entry.
+            slice_get self.now.entries place ≡ Some entry.now) }
+        ensures none { result ≡ None → slice_get self.now.entries place ≡ None }
+    {
+        let (sealed, unsealed) = self.segments();
+        entry_at(sealed, self.trail.size, unsealed, place)
     }
 
     /// One event: its receipt, and an entry more, whose stamp is one more than the greater of the
-    /// last stamp and `seen`. A refusal of the space makes an entry too. K1 where the trace is
-    /// full, else K3 where `seen` is above 2^60, else K2, and then nothing has changed. It costs
-    /// what the event costs at its space, and a copy more of the event and of what the answer owns
-    /// than are kept.
+    /// last stamp and `seen`. A refusal of the space makes an entry too. Where all is kept, an entry
+    /// that fills a segment seals it. K3 where the last stamp is above 2^62 or `seen` is above 2^60,
+    /// else K2, and then nothing has changed. It costs what the event costs at its space, and a copy
+    /// more of the event and of what the answer owns than are kept; a seal costs a look at each
+    /// session.
     pub fn append(&mut self, event: &Event, seen: u64) -> Result<Receipt, KeeperError>
         ensures next { IfOk result (λ receipt. receipts.IsNext self.old event.now seen receipt) }
         ensures entry { IfOk result (λ receipt. self.new
             ≡ accounts.with_next self.old (receipts.entry_of receipt)) }
-        // K1 and K3 come exactly where they are due.
+        // K3 comes exactly where it is due.
         ensures fault { (fault : KeeperErrorOf)
             → accounts.fault_of self.old seen ≡ Some fault → result ≡ Err fault }
         ensures only { IfErr result (λ error. error ≢ KeeperError.OutOfMemory
             → accounts.fault_of self.old seen ≡ Some error) }
         ensures err { OnErr result (self.new ≡ self.old) }
     {
-        let (receipt, _entry) = append(
-            &mut self.space,
-            &mut self.entries,
-            self.keep,
-            self.last,
-            event,
-            seen,
-        )?;
-        self.last = receipt.stamp;
+        let (receipt, _entry) = enter(&mut self.space, &mut self.trail, event, seen)?;
         Ok(receipt)
     }
 
@@ -180,18 +185,10 @@ impl Kept {
         ensures err { OnErr result (self.new ≡ self.old) }
     {
         self.admit(seen)?;
-        let Ok(()) = make_room(&mut self.noted, self.keep) else {
+        let Ok(()) = make_room(&mut self.noted, self.trail.keep) else {
             return Err(KeeperError::OutOfMemory);
         };
-        let (receipt, entry) = append(
-            &mut self.space,
-            &mut self.entries,
-            self.keep,
-            self.last,
-            event,
-            seen,
-        )?;
-        self.last = receipt.stamp;
+        let (receipt, entry) = enter(&mut self.space, &mut self.trail, event, seen)?;
         if let Some(entry) = entry {
             let place = receipt.place;
             put(&mut self.noted, spot, Noted { place, entry });
@@ -224,9 +221,9 @@ impl Kept {
         let Some(receipt) = seat.newest() else {
             return Ok(self.noted.len());
         };
-        match self.keep {
+        match self.trail.keep {
             Keep::All => {
-                if is_told(receipt, self.entries.kept()) {
+                if is_told(receipt, self) {
                     return Ok(0);
                 }
                 Err(KeeperError::Seats)
@@ -235,39 +232,33 @@ impl Kept {
         }
     }
 
-    /// K1 where the trace is full, else K3 where the stamp that was seen is too great.
+    /// K3 where the last stamp is too great, or the one that was seen.
     pub fn admit(&self, seen: u64) -> Result<(), KeeperError>
         ensures ok { OnOk result (accounts.fault_of self.now seen ≡ None) }
         ensures err { IfErr result (λ error. accounts.fault_of self.now seen ≡ Some error) }
     {
-        if self.is_full() {
-            return Err(KeeperError::TraceFull);
-        }
-        if seen > LAST_SEEN {
-            return Err(KeeperError::Stamp);
-        }
-        Ok(())
+        admit(self.trail.last, seen)
     }
 
     /// How many spaces there are, named by the last of them.
     pub fn n(&self) -> SpaceId
         ensures { result ≡ self.now.n }
     {
-        self.n
+        self.trail.n
     }
 
     /// How many entries the trace has, those too that aren't kept.
     pub fn len(&self) -> u64
         ensures { result ≡ length self.now.entries }
     {
-        self.entries.len()
+        self.trail.entries.len()
     }
 
-    /// Whether the trace is full: one that isn't kept never is.
+    /// Whether the trace is full: its last stamp is above 2^62. No run gets there by counting.
     pub fn is_full(&self) -> bool
         ensures { result ≡ accounts.is_full self.now }
     {
-        is_full(self.keep, self.entries.len())
+        is_last(self.trail.last)
     }
 
     /// Whether TakeReply of a call would say anything but that the reply isn't ready. It costs what
@@ -379,23 +370,26 @@ impl Kept {
         let peers = tallies_of(alloc, self)?;
         Ok(Summary {
             space: self.space.id(),
-            n: self.n,
-            entries: self.entries.len(),
-            last_stamp: self.last,
+            n: self.trail.n,
+            entries: self.trail.entries.len(),
+            last_stamp: self.trail.last,
             live: self.space.live(),
             peers: List::from_vec(peers),
         })
     }
 
-    /// The trace, of version 2, where the seats' receipts are those of its entries, each once: else
+    /// The chain of all entries, where the seats' receipts are those of its entries, each once: else
     /// K4, or K2 where memory is wanted, and all is handed back; so it is where the entries or the
-    /// receipts of a seat weren't kept (`NoTrace`): `end_with` ends such a one. The space is ended.
-    /// Linear in the entries and what they own, which it compares and doesn't copy.
-    pub fn close_with(self, seats: Vec<Seat>) -> Result<Trace, (KeeperError, Kept, Vec<Seat>)>
-        ensures trace { IfOk result (λ trace. accounts.account_in trace ≡ self) }
-        ensures receipts { IfOk result (λ trace.
-            closing.AreOf trace.entries (closing.receipts_of seats.items)) }
-        ensures account { IfOk result (λ trace. accounts.IsAccount (accounts.account_in trace)) }
+    /// receipts of a seat weren't kept (`NoTrace`): `end_with` ends such a one. What isn't sealed yet
+    /// is sealed, and the space is ended. Linear in the entries and what they own, which it compares
+    /// and doesn't copy.
+    pub fn close_with(self, seats: Vec<Seat>) -> Result<Chain, (KeeperError, Kept, Vec<Seat>)>
+        ensures chain { IfOk result (λ chain. accounts.account_in self.size chain ≡ self) }
+        ensures receipts { IfOk result (λ chain.
+            closing.AreOf (joined chain).entries (closing.receipts_of seats.items)) }
+        ensures sealed { IfOk result (λ chain. segments.IsSealedChain chain) }
+        ensures filled { IfOk result (λ chain. segments.AreFilled self.size chain.segments) }
+        ensures size { segments.IsSize self.size }
         // K4 comes only where it is due.
         ensures seats { IfErr result (λ back. back.0 ≡ KeeperError.Seats
             → closing.AreOf self.entries (closing.receipts_of seats.items) → ⊥) }
@@ -404,34 +398,46 @@ impl Kept {
         ensures unkept { self.keep ≡ keeps.Nothing → IfErr result (λ back.
             back.0 ≡ KeeperError.NoTrace) }
         ensures ended { OnOk result (self.keep ≡ keeps.All) }
-        ensures version { IfOk result (λ trace. trace.version ≡ versions.Two) }
         ensures only { IfErr result (λ back. (back.0 ≡ KeeperError.Seats)
             ⊎ ((back.0 ≡ KeeperError.OutOfMemory) ⊎ (back.0 ≡ KeeperError.NoTrace))) }
     {
-        let Keep::All = self.keep else {
+        let Keep::All = self.trail.keep else {
             return Err((KeeperError::NoTrace, self, seats));
         };
         let alloc = *self.noted.allocator();
-        if let Err(error) = judge(alloc, self.entries.kept(), seats.as_slice()) {
+        if let Err(error) = judge(alloc, &self, seats.as_slice()) {
             return Err((error, self, seats));
         }
+        match self.sealed() {
+            Ok(chain) => Ok(chain),
+            Err(kept) => Err((KeeperError::OutOfMemory, kept, seats)),
+        }
+    }
+
+    // The chain of all entries, all sealed. Only memory fails it, and then it is as it was.
+    fn sealed(self) -> Result<Chain, Kept>
+        requires all { self.keep ≡ keeps.All }
+        ensures chain { IfOk result (λ chain. accounts.account_in self.size chain ≡ self) }
+        ensures sealed { IfOk result (λ chain. segments.IsSealedChain chain) }
+        ensures filled { IfOk result (λ chain. segments.AreFilled self.size chain.segments) }
+        ensures size { segments.IsSize self.size }
+        ensures kept { IfErr result (λ back. back ≡ self) }
+    {
         let Kept {
             space,
-            n,
-            keep: _,
-            entries,
-            last: _,
-            noted: _noted,
+            mut trail,
+            noted,
         } = self;
-        let trace = Trace {
-            version: Version::Two,
-            space: space.id(),
-            n,
-            limits: space.limits(),
-            entries: Entries::from_vec(entries.into_kept()),
+        let Ok(room) = room_to_end(&mut trail) else {
+            return Err(Kept {
+                space,
+                trail,
+                noted,
+            });
         };
+        let chain = chain_of(&space, trail, room);
         space.shut();
-        Ok(trace)
+        Ok(chain)
     }
 
     /// What the entries come to, whether they were kept or not, where the newest receipt of each seat
@@ -463,14 +469,29 @@ impl Kept {
     pub fn shut(self) {
         let Kept {
             space,
-            n: _,
-            keep: _,
-            entries: _entries,
-            last: _,
+            trail: _trail,
             noted: _noted,
         } = self;
         space.shut();
     }
+}
+
+// A new space of whose entries this is kept, in segments of so many. It takes no memory.
+pub(crate) fn begun(alloc: Global, space: Space, keep: Keep, size: u32) -> Result<Kept, Space>
+    requires new { StandsFor space [] }
+    requires some { 1 ≤ space.n }
+    requires size { segments.IsSize size }
+    ensures kept { IfOk result (λ kept. kept ≡ accounts.account_of space keep size [] []) }
+    ensures back { IfErr result (λ back. back ≡ space) }
+{
+    let Some(n) = SpaceId::new(space.n()) else {
+        return Err(space);
+    };
+    Ok(Kept {
+        space,
+        trail: new_trail(alloc, n, keep, size),
+        noted: Vec::new(alloc),
+    })
 }
 
 // Whether a Transmit to some space would give something that was never given.
@@ -494,135 +515,4 @@ fn is_new_to(kept: &Kept, number: u16) -> bool
         Some(peer) => is_new(kept.due(peer)),
         None => false,
     }
-}
-
-// One event, with two equal results: one to keep and one to tell.
-fn ask(
-    space: &mut Space,
-    event: &Event,
-) -> Result<(Result<Answer, Refusal>, Result<Answer, Refusal>), AllocError>
-    ensures answer { IfOk result (λ two. (L : List EntryOf) → StandsFor space.old L
-        → two.0 ≡ right space.old.id space.old.n space.old.limits L event.now) }
-    ensures equal { IfOk result (λ two. two.1 ≡ two.0) }
-    ensures stands { IfOk result (λ two. (L : List EntryOf) → StandsFor space.old L
-        → StandsFor space.new
-        (record { space = space.old.id; event = event.now; result = two.0 } ∷ L)) }
-    ensures err { OnErr result ((L : List EntryOf) → StandsFor space.old L
-        → StandsFor space.new L) }
-    ensures same { SameSpace space.old space.new }
-{
-    match space.step_twice(event) {
-        Ok((answer, twin)) => Ok((Ok(answer), Ok(twin))),
-        Err(SpaceError::Refused(refusal)) => Ok((Err(refusal), Err(refusal))),
-        Err(SpaceError::OutOfMemory) => Err(AllocError),
-    }
-}
-
-// Whether a trace of so many entries is full, of which this is kept.
-fn is_full(keep: Keep, len: u64) -> bool
-    ensures { result ≡ accounts.full_at keep len }
-{
-    match keep {
-        Keep::All => len >= MOST_ENTRIES,
-        Keep::Nothing => false,
-    }
-}
-
-// The stamp of an entry behind the last one.
-fn next_stamp(last: u64, seen: u64) -> u64
-    requires low { last < 2 ^ 63 }
-    requires seen { seen ≤ accounts.last_seen }
-    ensures { result ≡ accounts.next_stamp last seen }
-{
-    last.max(seen) + 1
-}
-
-// One entry more, at the place that there is for it. Where nothing is kept it is handed back.
-fn add(entries: &mut Past<Stamped>, keep: Keep, entry: Stamped) -> Option<Stamped>
-    requires room { 0 < entries.old.room }
-    requires few { length entries.old.items < 2 ^ 63 }
-    ensures items { entries.new.items ≡ entries.old.items ++ entry ∷ [] }
-    ensures all { keep ≡ keeps.All → (entries.new.gone ≡ entries.old.gone) × (result ≡ None) }
-    ensures passed { keep ≡ keeps.Nothing → (entries.new.gone ≡ length entries.new.items)
-        × (result ≡ Some entry) }
-{
-    match keep {
-        Keep::All => {
-            entries.push_reserved(entry);
-            None
-        }
-        Keep::Nothing => {
-            entries.pass(&entry);
-            Some(entry)
-        }
-    }
-}
-
-// One event of a space whose entries these are, the last of them with this stamp: its receipt, and
-// where nothing is kept the entry.
-fn append(
-    space: &mut Space,
-    entries: &mut Past<Stamped>,
-    keep: Keep,
-    last: u64,
-    event: &Event,
-    seen: u64,
-) -> Result<(Receipt, Option<Stamped>), KeeperError>
-    requires kept { accounts.IsKept space.old
-        (accounts.account_of space.old keep entries.old.items []) }
-    requires last { last ≡ stamps.last_stamp 0 entries.old.items }
-    ensures next { IfOk result (λ two. receipts.IsNext
-        (accounts.account_of space.old keep entries.old.items []) event.now seen two.0) }
-    ensures entry { IfOk result (λ two. entries.new.items
-        ≡ entries.old.items ++ receipts.entry_of two.0 ∷ []) }
-    ensures all { IfOk result (λ two. keep ≡ keeps.All
-        → (entries.new.gone ≡ entries.old.gone) × (two.1 ≡ None)) }
-    ensures passed { IfOk result (λ two. keep ≡ keeps.Nothing
-        → (entries.new.gone ≡ length entries.new.items)
-        × (two.1 ≡ Some (receipts.entry_of two.0))) }
-    ensures kept { accounts.IsKept space.new
-        (accounts.account_of space.new keep entries.new.items []) }
-    ensures same { SameSpace space.old space.new }
-    ensures fault { (fault : KeeperErrorOf)
-        → accounts.fault_of (accounts.account_of space.old keep entries.old.items []) seen
-        ≡ Some fault → result ≡ Err fault }
-    ensures only { IfErr result (λ error. error ≢ KeeperError.OutOfMemory
-        → accounts.fault_of (accounts.account_of space.old keep entries.old.items []) seen
-        ≡ Some error) }
-    ensures err { OnErr result (entries.new.items ≡ entries.old.items) }
-    ensures err_gone { OnErr result (entries.new.gone ≡ entries.old.gone) }
-{
-    if is_full(keep, entries.len()) {
-        return Err(KeeperError::TraceFull);
-    }
-    if seen > LAST_SEEN {
-        return Err(KeeperError::Stamp);
-    }
-    let Ok(()) = entries.reserve() else {
-        return Err(KeeperError::OutOfMemory);
-    };
-    let Ok(kept_event) = event.copy() else {
-        return Err(KeeperError::OutOfMemory);
-    };
-    let Ok(told_event) = event.copy() else {
-        return Err(KeeperError::OutOfMemory);
-    };
-    let stamp = next_stamp(last, seen);
-    let place = entries.len() + 1;
-    let Ok((kept, told)) = ask(space, event) else {
-        return Err(KeeperError::OutOfMemory);
-    };
-    let entry = Stamped {
-        stamp,
-        event: kept_event,
-        result: kept,
-    };
-    let passed = add(entries, keep, entry);
-    let receipt = Receipt {
-        place,
-        stamp,
-        event: told_event,
-        result: told,
-    };
-    Ok((receipt, passed))
 }

@@ -11,8 +11,10 @@ mod kept;
 mod locking;
 mod noted;
 mod receipt;
+mod sealing;
 mod seat;
 mod summary;
+mod trail;
 mod waking;
 
 pub use error::KeeperError;

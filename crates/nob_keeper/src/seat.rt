@@ -93,8 +93,8 @@ impl Seat {
     }
 
     /// One call, without a lock: an event of the space, whose receipt is added. K4 where the trace
-    /// hasn't the newest receipt or its entry isn't kept any more, else K1, K3 and K2 as `Kept::append` has them; then nothing has
-    /// changed.
+    /// hasn't the newest receipt or its entry isn't kept any more, else K3 and K2 as `Kept::append`
+    /// has them; then nothing has changed.
     pub fn ask(&mut self, kept: &mut Kept, event: &Event, seen: u64) -> Result<(), KeeperError>
         ensures adds { OnOk result (seats.Adds self.old self.new event.now seen) }
         ensures next { OnOk result (seats.AddsNext self.old self.new event.now seen) }
@@ -102,7 +102,7 @@ impl Seat {
             seen) }
         // Of a seat that has asked the newest entry stays, and so do those of other seats.
         ensures stays { OnOk result (seats.StaysNewest kept.old kept.new self.old self.new) }
-        // K4 comes exactly where it is due, and then K1 and K3.
+        // K4 comes exactly where it is due, and then K3.
         ensures seats { (seats.Has kept.old.entries self.old → ⊥)
             → result ≡ Err KeeperError.Seats }
         ensures there { (seats.IsThere kept.old self.old → ⊥)

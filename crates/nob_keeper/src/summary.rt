@@ -3,14 +3,15 @@
 ghost use Rattle.std.specs.Prelude.{◌≡◌, ◌++◌, ◌∷◌, [], IfOk, IfErr, OnOk};
 ghost use Rattle.nob_ids.specs.Names.{IsSpace};
 ghost use Rattle.nob_keeper.specs.Seats.{HasAll, AreAllThere};
+ghost use Rattle.nob_keeper.specs.Segments as segments;
 ghost use Rattle.nob_keeper.specs.Summaries as summaries;
 
 use crate::error::KeeperError;
 use crate::kept::Kept;
 use crate::seat::Seat;
+use nob_chain::Chain;
 use nob_ids::SpaceId;
 use nob_model_types::{List, Tally};
-use nob_trace::Trace;
 use std::alloc::{AllocError, Global};
 
 /// What went each way on the session with a peer.
@@ -42,19 +43,19 @@ pub struct Summary {
 /// What a keeper leaves at its end.
 #[derive(Debug, Drop)]
 pub enum Record {
-    /// All entries, where all were kept.
-    Trace(Trace),
+    /// All entries, in sealed segments, where all were kept.
+    Chain(Chain),
     /// What they come to, where nothing was kept.
     Summary(Summary),
 }
 
 impl Record {
-    /// The trace, if there is one.
-    pub fn into_trace(self) -> Option<Trace>
-        ensures { summaries.trace_in self ≡ result }
+    /// The chain, if there is one.
+    pub fn into_chain(self) -> Option<Chain>
+        ensures { summaries.chain_in self ≡ result }
     {
         match self {
-            Record::Trace(trace) => Some(trace),
+            Record::Chain(chain) => Some(chain),
             Record::Summary(_) => None,
         }
     }
@@ -63,7 +64,7 @@ impl Record {
 // The tallies of the sessions with all peers, by rising peer. Only memory fails it.
 pub(crate) fn tallies_of(alloc: Global, kept: &Kept) -> Result<Vec<PeerTally>, AllocError>
     ensures { IfOk result (λ tallies. tallies.items
-        ≡ summaries.tallies_among kept.now (summaries.spaces_to kept.now.n)) }
+        ≡ summaries.tallies_among kept.now (segments.spaces_to kept.now.n)) }
 {
     let mut tallies = Vec::new(alloc);
     let end = kept.n().get() + 1;

@@ -23,7 +23,8 @@ use std::thread::{self, Threads};
 /// What a node leaves when it has ended.
 #[derive(Drop)]
 pub struct Report<B: Object> {
-    /// What was kept of the entries of its space: the trace, or what they come to.
+    /// What was kept of the entries of its space: all of them, in a chain of sealed segments, or what
+    /// they come to.
     pub record: Record,
     /// The application's objects that weren't withdrawn, by rising index.
     pub objects: Vec<Left<B>>,
@@ -50,8 +51,8 @@ struct Remains<B: Object> {
 /// application runs. When that returns, no new job is claimed, methods that run go on to their ends,
 /// the end is put on each link, and what comes is taken until the peers' ends come. So a node ends
 /// after its peers' applications: each node wants a thread of its own. The application's objects
-/// come back in any case. J1 with K1 where the trace is full (never where nothing is kept), with K2
-/// where memory is wanted or a thread can't be made: then the application may not have run.
+/// come back in any case. J1 with K3 where the trace is full, with K2 where memory is wanted or a
+/// thread can't be made: then the application may not have run.
 pub fn run<B: Object + Send, R: Threads + Wait + Sync, G: Gate + Sync, A: App<B>>(
     rt: &R,
     alloc: Global,
@@ -61,7 +62,7 @@ pub fn run<B: Object + Send, R: Threads + Wait + Sync, G: Gate + Sync, A: App<B>
     app: &mut A,
 ) -> Result<Report<B>, (NodeError, Vec<Left<B>>)>
     ensures recorded { IfOk result (λ report. nodes.IsRecorded report.«record») }
-    ensures kept { IfOk result (λ report. summaries.is_trace report.«record»
+    ensures kept { IfOk result (λ report. summaries.is_chain report.«record»
         ≡ keeps_all config.keep) }
 {
     let Some((site, crew)) = site_of::<B>(alloc, &config, ends) else {
@@ -152,7 +153,7 @@ fn finish<B: Object, R: Wait>(
     remains: Remains<B>,
 ) -> Result<Report<B>, (NodeError, Vec<Left<B>>)>
     ensures recorded { IfOk result (λ report. nodes.IsRecorded report.«record») }
-    ensures kept { IfOk result (λ report. summaries.is_trace report.«record» ≡ keeps_all kept) }
+    ensures kept { IfOk result (λ report. summaries.is_chain report.«record» ≡ keeps_all kept) }
 {
     let has_failed = site.has_failed();
     let Parts {
@@ -181,7 +182,7 @@ fn finish<B: Object, R: Wait>(
     }
     keeper.shut();
     let error = if is_whole {
-        KeeperError::TraceFull
+        KeeperError::Stamp
     } else {
         KeeperError::OutOfMemory
     };
@@ -210,7 +211,7 @@ fn close<B: Object>(
     objects: Vec<Left<B>>,
 ) -> Result<Report<B>, (NodeError, Vec<Left<B>>)>
     ensures recorded { IfOk result (λ report. nodes.IsRecorded report.«record») }
-    ensures kept { IfOk result (λ report. summaries.is_trace report.«record» ≡ keeps_all kept) }
+    ensures kept { IfOk result (λ report. summaries.is_chain report.«record» ≡ keeps_all kept) }
 {
     match record_of(keeper, kept, seats) {
         Ok(record) => Ok(Report { record, objects }),
@@ -221,14 +222,14 @@ fn close<B: Object>(
     }
 }
 
-// What was kept: the trace, or what the entries come to.
+// What was kept: a chain of all entries, or what they come to.
 fn record_of(keeper: Keeper, kept: Keep, seats: Vec<Seat>) -> Result<Record, (KeeperError, Keeper)>
     ensures recorded { IfOk result (λ left. summaries.IsRecordOf seats.items left) }
-    ensures kept { IfOk result (λ left. summaries.is_trace left ≡ keeps_all kept) }
+    ensures kept { IfOk result (λ left. summaries.is_chain left ≡ keeps_all kept) }
 {
     match kept {
         Keep::All => match keeper.close_with(seats) {
-            Ok(trace) => Ok(Record::Trace(trace)),
+            Ok(chain) => Ok(Record::Chain(chain)),
             Err((error, keeper, _seats)) => Err((error, keeper)),
         },
         Keep::Nothing => match keeper.end_with(seats) {

@@ -67,8 +67,8 @@ impl Config {
         })
     }
 
-    /// The same node, which keeps this of its entries: all of them, and then it ends when there are
-    /// 2^20, or nothing, and then it runs as long as it is let.
+    /// The same node, which keeps this of its entries: all of them, as long as there is memory for
+    /// them, or nothing, and then it runs as long as it is let.
     pub fn keeping(self, keep: Keep) -> Config
         ensures { (result.space ≡ self.space) × (result.n ≡ self.n)
             × (result.limits ≡ self.limits) × (result.workers ≡ self.workers)

@@ -707,7 +707,7 @@ impl<B: Object> Site<B> {
 
     // Where the trace is full the node has failed.
     fn note<R: Wait>(&self, rt: &R, error: KeeperError) {
-        if error == KeeperError::TraceFull {
+        if error == KeeperError::Stamp {
             self.fail(rt);
         }
     }

@@ -4,6 +4,7 @@ ghost use Rattle.std.specs.Prelude.{◌≡◌, ◌<◌, ◌+◌, ◌-◌, ◌^�
 
 use std::alloc::{AllocError, Global};
 use std::marker::Model;
+use std::mem;
 use std::snapshot::Snapshot;
 
 /// A list has fewer items than this.
@@ -150,6 +151,25 @@ impl<T: Drop> Past<T> {
         self.kept.clear();
         self.len += 1;
         self.kept.push_reserved(item);
+    }
+
+    /// One more behind the others, at the place that there is; all that have bytes, this one too, are
+    /// handed out, and contracts see them still. It takes no memory.
+    pub fn hand_out(&mut self, item: T) -> Vec<T>
+        requires room { 0 < self.old.room }
+        requires few { length self.old.items < 2 ^ 63 }
+        ensures items { self.new.items ≡ self.old.items ++ item ∷ [] }
+        ensures gone { self.new.gone ≡ length self.new.items }
+        ensures out { (before : List T) × (self.new.items ≡ before ++ result.items)
+            × (length before ≡ self.old.gone) }
+    {
+        let alloc = *self.kept.allocator();
+        let earlier = Snapshot::of(&*self);
+        let newest = Snapshot::of(&item);
+        self.earlier = Link::Item(earlier, newest);
+        self.len += 1;
+        self.kept.push_reserved(item);
+        mem::replace(&mut self.kept, Vec::new(alloc))
     }
 
     /// One more behind the others, of which no bytes are kept, as of none before it.

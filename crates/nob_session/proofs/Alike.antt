@@ -1,6 +1,6 @@
 -- Lists of calls that are alike, and the ends that stand for them: each call that is right after the one is right
 -- after the other, and they are alike with it.
-use Rattle.std.proofs.Common.{◌≡◌, ℕ, zero, suc, ◌+◌, ◌-◌, ◌≤◌, max, true, false, not, ◌&&◌, ◌||◌, ◌==◌, Bool, nat_lt, nat_le, List, [], ◌∷◌, ◌++◌, length, take, drop, Option, Some, None, is_none, IsSome, Ok, Err, if◌then◌else◌, refl, sym, ap, subst, ◌∙◌, arith}
+use Rattle.std.proofs.Common.{◌≡◌, ℕ, zero, suc, ◌+◌, ◌-◌, ◌≤◌, max, true, false, not, ◌&&◌, ◌||◌, ◌==◌, Bool, nat_lt, nat_le, List, [], ◌∷◌, ◌++◌, length, take, drop, Option, Some, None, is_none, IsSome, Result, Ok, Err, if◌then◌else◌, refl, sym, ap, subst, ◌∙◌, arith}
 use Rattle.std.specs.Option.{option_or}
 use Rattle.std.proofs.Math.Nat.{zero-max}
 use Rattle.std.proofs.lemmas.Bool.Decides.{nat_tests}
@@ -10,9 +10,11 @@ use Rattle.nob_ids.specs.declared.reason.Reason.TheVariants.{PeerClosed, Retries
 use Rattle.nob_frame.specs.declared.frame.Frame.{Frame}
 use Rattle.nob_frame.specs.declared.frame.FrameKind.TheVariants as kinds
 use Rattle.nob_frame.specs.Kinds.{is_data, is_close}
+use Rattle.nob_model_session.specs.declared.refusal.EndRefusal.{EndRefusal}
 use Rattle.nob_model_session.specs.declared.refusal.EndRefusal.TheVariants as refusal
 use Rattle.nob_model_session.specs.declared.entry.Kind.{Kind}
 use Rattle.nob_model_session.specs.declared.entry.Ending.{Ending}
+use Rattle.nob_model_session.specs.declared.entry.Arrived.{Arrived}
 use Rattle.nob_model_session.specs.declared.entry.Arrived.TheVariants as arrived
 use Rattle.nob_model_session.specs.declared.entry.EndEntry.{EndEntry}
 use Rattle.nob_model_session.specs.declared.entry.EndEntry.TheVariants.{Send, Transmit, Arrive, Front, Take, IsOpen, Tick, Close, Reopen}
@@ -20,6 +22,11 @@ use Rattle.nob_model_session.specs.End.{number, seen, ending, is_open, is_presen
 use Rattle.nob_model_session.specs.Right.{IsRight, queue_limit, inbox_limit, is_limited, right_send, open_frames, closed_frames, right_transmit, is_of_pair, in_a_row, right_arrive, first_of, right_front, right_tick, right_close, right_reopen, is_free_number}
 use Rattle.nob_session.specs.Stands.{End, Stands, end_of}
 use Rattle.nob_session.specs.Onward.{Words, words_of, AreAlike, onward, StandsOnward}
+
+-- whether a call is a `reopen`
+abbrev pub is_opening : EndEntry → Bool
+is_opening (Reopen k answer) = true
+is_opening (_) = false
 
 -- places of which each payload is the same are the same
 same_places : (n count : ℕ) (L M : List EndEntry) → ((k : ℕ) → payload k L ≡ payload k M) → places n count L ≡ places n count M
@@ -213,24 +220,36 @@ module _ (L M : List EndEntry) (alike : AreAlike L M) where
   right_alike me peer limits (Close reason answer) right = right ∙ close_alike L M alike peer reason
   right_alike me peer limits (Reopen k answer) right = right ∙ reopen_alike k
 
-  -- and lists that are alike still are with such a call more
+  -- and lists that are alike still are with a call more that begins no session
+  pub step_alike : (entry : EndEntry) → is_opening entry ≡ false → AreAlike (entry ∷ L) (entry ∷ M)
+  step_alike (Send payload kind (Ok n)) none = ap (λ (w : Words). record w { handed = w.handed ++ payload ∷ [] }) alike
+  step_alike (Send payload kind (Err e)) none = alike
+  step_alike (Transmit frames) none = ap (λ (w : Words). record w { transmitted = max w.transmitted (greatest_seq frames); data_arrived = false; owes_close = false }) alike
+  step_alike (Arrive frame (Ok (arrived.Took k))) none = took_alike frame k
+  step_alike (Arrive frame (Ok (arrived.Closed e))) none = closed_alike frame e
+  step_alike (Arrive frame (Err e)) none = alike
+  step_alike (Front answer) none = alike
+  step_alike Take none = ap (λ (w : Words). record w { takes = w.takes + 1 }) alike
+  step_alike (IsOpen answer) none = alike
+  step_alike (Tick (Ok None)) none = ap (λ (w : Words). record w { ticks = if nat_le w.lowest w.transmitted then w.ticks + 1 else w.ticks }) alike
+  step_alike (Tick (Ok (Some e))) none = ap (λ (w : Words). record w { ending = Some e.reason; owes_close = owes_after e.reason }) alike
+  step_alike (Tick (Err e)) none = alike
+  step_alike (Close reason (Ok e)) none = ap (λ (w : Words). record w { ending = Some e.reason; owes_close = owes_after e.reason }) alike
+  step_alike (Close reason (Err e)) none = alike
+  step_alike (Reopen k answer) some = absurd (let bad : true ≡ false = some in cc)
+
+  -- or with any that is right
   pub more_alike : (me peer : ℕ) (limits : Limits) (entry : EndEntry) → IsRight me peer limits entry L → AreAlike (entry ∷ L) (entry ∷ M)
-  more_alike me peer limits (Send payload kind (Ok n)) right = ap (λ (w : Words). record w { handed = w.handed ++ payload ∷ [] }) alike
-  more_alike me peer limits (Send payload kind (Err e)) right = alike
-  more_alike me peer limits (Transmit frames) right = ap (λ (w : Words). record w { transmitted = max w.transmitted (greatest_seq frames); data_arrived = false; owes_close = false }) alike
-  more_alike me peer limits (Arrive frame (Ok (arrived.Took k))) right = took_alike frame k
-  more_alike me peer limits (Arrive frame (Ok (arrived.Closed e))) right = closed_alike frame e
-  more_alike me peer limits (Arrive frame (Err e)) right = alike
-  more_alike me peer limits (Front answer) right = alike
-  more_alike me peer limits Take right = ap (λ (w : Words). record w { takes = w.takes + 1 }) alike
-  more_alike me peer limits (IsOpen answer) right = alike
-  more_alike me peer limits (Tick (Ok None)) right = ap (λ (w : Words). record w { ticks = if nat_le w.lowest w.transmitted then w.ticks + 1 else w.ticks }) alike
-  more_alike me peer limits (Tick (Ok (Some e))) right = ap (λ (w : Words). record w { ending = Some e.reason; owes_close = owes_after e.reason }) alike
-  more_alike me peer limits (Tick (Err e)) right = alike
-  more_alike me peer limits (Close reason (Ok e)) right = ap (λ (w : Words). record w { ending = Some e.reason; owes_close = owes_after e.reason }) alike
-  more_alike me peer limits (Close reason (Err e)) right = alike
   more_alike me peer limits (Reopen k (Ok done)) right = reopened_alike k done right (right ∙ reopen_alike k)
   more_alike me peer limits (Reopen k (Err e)) right = alike
+  more_alike me peer limits (Send payload kind answer) right = step_alike (Send payload kind answer) refl
+  more_alike me peer limits (Transmit frames) right = step_alike (Transmit frames) refl
+  more_alike me peer limits (Arrive frame answer) right = step_alike (Arrive frame answer) refl
+  more_alike me peer limits (Front answer) right = step_alike (Front answer) refl
+  more_alike me peer limits Take right = step_alike Take refl
+  more_alike me peer limits (IsOpen answer) right = step_alike (IsOpen answer) refl
+  more_alike me peer limits (Tick answer) right = step_alike (Tick answer) refl
+  more_alike me peer limits (Close reason answer) right = step_alike (Close reason answer) refl
 
 -- an end that stands onward for a list is the one that the list leaves, as far as is seen onward
 pub onward_is : {me peer : ℕ} {limits : Limits} {e : End} {L : List EndEntry} → StandsOnward me peer limits e L → onward e ≡ onward (end_of me peer limits L)
@@ -248,10 +267,25 @@ called_onward {me} {peer} {limits} {old} {new} {L} entry its call =
     let done = call its.calls its.stands in
     (right_alike its.calls L its.alike me peer limits entry done.0, record { calls = entry ∷ its.calls; stands = done.1; alike = more_alike its.calls L its.alike me peer limits entry done.0 })
 
--- so is a call that leaves the end as it is
+-- so is a list that the calls make of each list for which the end stood, if it makes alike lists of alike ones
+pub made_onward : {me peer : ℕ} {limits : Limits} {old new : End} {L : List EndEntry} (make : List EndEntry → List EndEntry) → ((M N : List EndEntry) → AreAlike M N → AreAlike (make M) (make N)) → StandsOnward me peer limits old L
+    → ((M : List EndEntry) → Stands me peer limits old M → Stands me peer limits new (make M)) → StandsOnward me peer limits new (make L)
+made_onward {me} {peer} {limits} {old} {new} {L} make keeps its call = record { calls = make its.calls; stands = call its.calls its.stands; alike = keeps its.calls L its.alike }
+
+-- one call more, which begins no session
+pub stepped_onward : {me peer : ℕ} {limits : Limits} {old new : End} {L : List EndEntry} (entry : EndEntry) → is_opening entry ≡ false → StandsOnward me peer limits old L
+    → ((M : List EndEntry) → Stands me peer limits old M → Stands me peer limits new (entry ∷ M)) → StandsOnward me peer limits new (entry ∷ L)
+stepped_onward entry none its call = made_onward (λ M. entry ∷ M) (λ M N alike. step_alike M N alike entry none) its call
+
+-- what is right for a call that leaves the end as it is
 pub told_onward : {me peer : ℕ} {limits : Limits} {e : End} {L : List EndEntry} (entry : EndEntry) → StandsOnward me peer limits e L
     → ((M : List EndEntry) → Stands me peer limits e M → IsRight me peer limits entry M) → IsRight me peer limits entry L
 told_onward {me} {peer} {limits} {e} {L} entry its call = right_alike its.calls L its.alike me peer limits entry (call its.calls its.stands)
+
+-- what an arrival is answered, where that is told of each list for which the end stands
+pub arrives_onward : {me peer : ℕ} {limits : Limits} {e : End} {L : List EndEntry} (frame : Frame) (answer : List EndEntry → Result Arrived EndRefusal) (its : StandsOnward me peer limits e L)
+    → ((M : List EndEntry) → Stands me peer limits e M → right_arrive me peer frame M ≡ answer M) → right_arrive me peer frame L ≡ answer its.calls
+arrives_onward {me} {peer} {limits} {e} {L} frame answer its call = sym (arrive_alike its.calls L its.alike me peer frame) ∙ call its.calls its.stands
 
 -- of an end that begins session k the highest number that arrived is forgotten up to k
 module _ (me peer : ℕ) (limits : Limits) (k low : ℕ) (done : Unit {0}) (L : List EndEntry) where

@@ -56,7 +56,7 @@ fn print_ended<R: Print>(rt: &R, name: &str, ended: Option<Ended>) -> io::Result
     };
     println!(rt; "{name}: withdrawn {}", said(ended.is_withdrawn))?;
     println!(rt;
-        "{name}: the traces are accepted {}",
+        "{name}: the chains are accepted {}",
         said(ended.is_accepted)
     )
 }

@@ -2,10 +2,10 @@
 
 use crate::node::{Agents, Ends, agents_of, ends_of_both, keeper_of};
 use crate::rounds::begin;
-use nob_check::check;
+use nob_chain::Chain;
+use nob_chain_check::check;
 use nob_ids::SpaceId;
 use nob_keeper::{Keeper, Seat};
-use nob_trace::Trace;
 use std::alloc::Global;
 use std::sync::Wait;
 use std::sync::atomic::{AtomicBool, Ordering};
@@ -30,7 +30,7 @@ struct Left {
     has_withdrawn: bool,
 }
 
-/// Two spaces, a thread each, go on until the first has withdrawn its object; then the traces are
+/// Two spaces, a thread each, go on until the first has withdrawn its object; then the chains are
 /// checked. Of ten frames so many are lost, and others repeated or kept back.
 pub(crate) fn run<R: Threads + Wait + Sync>(rt: &R, alloc: Global, loss: u64) -> Option<Ended> {
     let first = SpaceId::new(1)?;
@@ -45,9 +45,9 @@ pub(crate) fn run<R: Threads + Wait + Sync>(rt: &R, alloc: Global, loss: u64) ->
         Some(left) => left.has_withdrawn,
         None => false,
     };
-    let trace = trace_of(one, ours);
-    let other_trace = trace_of(other, theirs);
-    let is_accepted = are_accepted(alloc, trace?, other_trace?)?;
+    let chain = chain_of(one, ours);
+    let other_chain = chain_of(other, theirs);
+    let is_accepted = are_accepted(alloc, chain?, other_chain?)?;
     Some(Ended {
         is_withdrawn,
         is_accepted,
@@ -118,7 +118,7 @@ fn left_of(alloc: Global, agents: Agents) -> Option<Left> {
 }
 
 // Ends a keeper whose agents have ended.
-fn trace_of(keeper: Keeper, left: Option<Left>) -> Option<Trace> {
+fn chain_of(keeper: Keeper, left: Option<Left>) -> Option<Chain> {
     let Some(left) = left else {
         keeper.shut();
         return None;
@@ -128,7 +128,7 @@ fn trace_of(keeper: Keeper, left: Option<Left>) -> Option<Trace> {
         has_withdrawn: _,
     } = left;
     match keeper.close_with(seats) {
-        Ok(trace) => Some(trace),
+        Ok(chain) => Some(chain),
         Err((_, keeper, _)) => {
             keeper.shut();
             None
@@ -136,10 +136,10 @@ fn trace_of(keeper: Keeper, left: Option<Left>) -> Option<Trace> {
     }
 }
 
-// Whether the traces are together a run of a world.
-fn are_accepted(alloc: Global, first: Trace, second: Trace) -> Option<bool> {
-    let mut traces = Vec::new(alloc);
-    traces.push(first).ok()?;
-    traces.push(second).ok()?;
-    Some(check(alloc, traces.as_slice()).is_ok())
+// Whether the chains are together a run of a world, and each seal is right.
+fn are_accepted(alloc: Global, first: Chain, second: Chain) -> Option<bool> {
+    let mut chains = Vec::new(alloc);
+    chains.push(first).ok()?;
+    chains.push(second).ok()?;
+    Some(check(alloc, chains).is_ok())
 }

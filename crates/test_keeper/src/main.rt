@@ -2,6 +2,7 @@
 //! answered by its name and a number.
 #![tactic(auto)]
 
+mod checked;
 mod short;
 mod spaces;
 mod threads;
@@ -35,7 +36,10 @@ fn run<R: Threads + Wait + Sync + Input + Print>(rt: &R, alloc: Global) -> io::R
 fn number_of<R: Threads + Wait + Sync>(rt: &R, alloc: Global, name: &str) -> Option<usize> {
     match name {
         "pairs" => threads::pairs(rt, alloc),
+        "checked" => checked::run(rt, alloc),
+        "filled" => short::sealed(rt, alloc, 7),
         "short" => short::run(rt, alloc),
+        "sealed" => short::sealed(rt, alloc, 3),
         "woken" => threads::woken(rt, alloc),
         _ => None,
     }

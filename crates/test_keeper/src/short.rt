@@ -1,6 +1,7 @@
 //! A short run of a keeper by one thread, for which memory may be wanted at any call.
 
-use crate::spaces::{first, new_keeper, second};
+use crate::spaces::{first, new_keeper, second, with_segments};
+use nob_chain::Chain;
 use nob_ids::{CallNo, WireRep};
 use nob_keeper::{Keeper, KeeperError, Seat};
 use nob_model_types::{Answer, Event};
@@ -16,6 +17,21 @@ pub(crate) fn run<R: Wait>(rt: &R, alloc: Global) -> Option<usize> {
         Some(keeper) => keeper,
         None => new_keeper(alloc, first())?,
     };
+    Some(entries_of(&after_calls(rt, alloc, keeper)?))
+}
+
+/// The same, with segments of so many entries: the number of segments, each of which must be sealed
+/// and have just so many entries, or be the last and have fewer, but some.
+pub(crate) fn sealed<R: Wait>(rt: &R, alloc: Global, size: u32) -> Option<usize> {
+    let keeper = match with_segments(alloc, first(), size) {
+        Some(keeper) => keeper,
+        None => with_segments(alloc, first(), size)?,
+    };
+    segments_of(&after_calls(rt, alloc, keeper)?, size)
+}
+
+// The chain of a keeper, once all calls were made.
+fn after_calls<R: Wait>(rt: &R, alloc: Global, keeper: Keeper) -> Option<Chain> {
     let mut seat = keeper.seat();
     let done = calls(rt, &keeper, &mut seat);
     let mut seats = Vec::new(alloc);
@@ -27,14 +43,14 @@ pub(crate) fn run<R: Wait>(rt: &R, alloc: Global) -> Option<usize> {
         keeper.shut();
         return None;
     };
-    let count = ends(keeper, seats);
-    if done { count } else { None }
+    let chain = ends(keeper, seats);
+    if done { chain } else { None }
 }
 
-/// Ends a keeper, once more where memory was wanted: the number of entries.
-pub(crate) fn ends(keeper: Keeper, seats: Vec<Seat>) -> Option<usize> {
+/// Ends a keeper, once more where memory was wanted.
+pub(crate) fn ends(keeper: Keeper, seats: Vec<Seat>) -> Option<Chain> {
     match keeper.close_with(seats) {
-        Ok(trace) => Some(trace.entries.len()),
+        Ok(chain) => Some(chain),
         Err((KeeperError::OutOfMemory, keeper, seats)) => ends_at_last(keeper, seats),
         Err((_, keeper, _)) => {
             keeper.shut();
@@ -43,15 +59,39 @@ pub(crate) fn ends(keeper: Keeper, seats: Vec<Seat>) -> Option<usize> {
     }
 }
 
-// Ends a keeper: the number of entries.
-fn ends_at_last(keeper: Keeper, seats: Vec<Seat>) -> Option<usize> {
+// Ends a keeper.
+fn ends_at_last(keeper: Keeper, seats: Vec<Seat>) -> Option<Chain> {
     match keeper.close_with(seats) {
-        Ok(trace) => Some(trace.entries.len()),
+        Ok(chain) => Some(chain),
         Err((_, keeper, _)) => {
             keeper.shut();
             None
         }
     }
+}
+
+/// The number of entries of a chain.
+pub(crate) fn entries_of(chain: &Chain) -> usize {
+    let mut count = 0usize;
+    for segment in chain.parts().segments.as_slice() {
+        count = count.saturating_add(segment.entries.len());
+    }
+    count
+}
+
+/// The number of segments of a chain, where each is sealed and has so many entries, but the last,
+/// which has some and no more than so many.
+pub(crate) fn segments_of(chain: &Chain, size: u32) -> Option<usize> {
+    let segments = chain.parts().segments.as_slice();
+    for (place, segment) in segments.iter().enumerate() {
+        let len = segment.entries.len();
+        let is_filled = len == size as usize;
+        let is_end = place + 1 == segments.len() && 1 <= len && len <= size as usize;
+        if segment.seal.is_none() || !(is_filled || is_end) {
+            return None;
+        }
+    }
+    Some(segments.len())
 }
 
 // Whether all calls are answered as they must be.

@@ -1,7 +1,7 @@
 //! New keepers.
 
 use nob_ids::{Limits, SpaceId};
-use nob_keeper::Keeper;
+use nob_keeper::{Keeper, KeeperError};
 use nob_space::Space;
 use std::alloc::Global;
 
@@ -13,6 +13,37 @@ pub(crate) fn new_keeper(alloc: Global, id: SpaceId) -> Option<Keeper> {
     match Keeper::new(alloc, space) {
         Ok(keeper) => Some(keeper),
         Err(space) => {
+            space.shut();
+            None
+        }
+    }
+}
+
+/// The same with segments of so many entries. A size that no segment may have is refused first.
+pub(crate) fn with_segments(alloc: Global, id: SpaceId, size: u32) -> Option<Keeper> {
+    let Ok(space) = Space::new(alloc, id, 2, Limits::default()) else {
+        return None;
+    };
+    let space = refused(alloc, space, 0)?;
+    let space = refused(alloc, space, 65_537)?;
+    match Keeper::with_segment(alloc, space, size) {
+        Ok(keeper) => Some(keeper),
+        Err((_, space)) => {
+            space.shut();
+            None
+        }
+    }
+}
+
+// A new space that is handed back, since no segment may have so many entries.
+fn refused(alloc: Global, space: Space, size: u32) -> Option<Space> {
+    match Keeper::with_segment(alloc, space, size) {
+        Ok(keeper) => {
+            keeper.shut();
+            None
+        }
+        Err((KeeperError::Size, space)) => Some(space),
+        Err((_, space)) => {
             space.shut();
             None
         }

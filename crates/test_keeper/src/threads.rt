@@ -1,7 +1,8 @@
 //! Threads at one keeper, each with a seat of its own.
 
-use crate::short::{ends, exported};
+use crate::short::{ends, entries_of, exported};
 use crate::spaces::{first, new_keeper, second};
+use nob_chain::Chain;
 use nob_ids::{CallNo, WireRep};
 use nob_keeper::{Keeper, Seat};
 use nob_model_types::{Answer, Event};
@@ -16,9 +17,9 @@ const TIMES: usize = 1000;
 // So many looks at the space are made before a session is closed for which another thread waits.
 const LOOKS: usize = 1000;
 
-// What one thread leaves: its seat, and whether all its calls were answered as they must be.
+/// What one thread leaves: its seat, and whether all its calls were answered as they must be.
 #[derive(Drop)]
-struct Left {
+pub(crate) struct Left {
     seat: Seat,
     is_right: bool,
 }
@@ -33,7 +34,8 @@ pub(crate) fn pairs<R: Threads + Wait + Sync>(rt: &R, alloc: Global) -> Option<u
         None => 0,
     };
     let (one, other) = by_two(rt, &keeper, index);
-    end_all(alloc, keeper, seat, one, other)
+    let chain = end_all(alloc, keeper, seat, one, other)?;
+    Some(entries_of(&chain))
 }
 
 /// A thread waits for the reply to a call until another closes the session: the number of entries.
@@ -42,19 +44,29 @@ pub(crate) fn woken<R: Threads + Wait + Sync>(rt: &R, alloc: Global) -> Option<u
     let mut seat = keeper.seat();
     let called = calls(rt, &keeper, &mut seat);
     let (one, other) = wait_and_close(rt, &keeper);
-    let count = end_all(alloc, keeper, seat, one, other);
-    if called { count } else { None }
+    let chain = end_all(alloc, keeper, seat, one, other)?;
+    if called {
+        Some(entries_of(&chain))
+    } else {
+        None
+    }
 }
 
-// Ends a keeper with all seats: the number of entries, if all went well before.
-fn end_all(alloc: Global, keeper: Keeper, seat: Seat, one: Left, other: Left) -> Option<usize> {
+/// Ends a keeper with all seats: its chain, if all went well before.
+pub(crate) fn end_all(
+    alloc: Global,
+    keeper: Keeper,
+    seat: Seat,
+    one: Left,
+    other: Left,
+) -> Option<Chain> {
     let is_right = one.is_right && other.is_right;
     let Some(seats) = seats_of(alloc, seat, one, other) else {
         keeper.shut();
         return None;
     };
-    let count = ends(keeper, seats);
-    if is_right { count } else { None }
+    let chain = ends(keeper, seats);
+    if is_right { chain } else { None }
 }
 
 // All seats.
@@ -68,8 +80,12 @@ fn seats_of(alloc: Global, seat: Seat, one: Left, other: Left) -> Option<Vec<Sea
     Some(seats)
 }
 
-// What the two threads leave that hold the object of an index once more.
-fn by_two<R: Threads + Wait + Sync>(rt: &R, keeper: &Keeper, index: u64) -> (Left, Left) {
+/// What the two threads leave that hold the object of an index once more.
+pub(crate) fn by_two<R: Threads + Wait + Sync>(
+    rt: &R,
+    keeper: &Keeper,
+    index: u64,
+) -> (Left, Left) {
     thread::join(
         rt,
         move || hold_and_release(rt, keeper, index),
@@ -98,8 +114,13 @@ fn object(index: u64) -> WireRep {
     }
 }
 
-// Whether the space does this.
-fn is_answered<R: Wait>(rt: &R, keeper: &Keeper, seat: &mut Seat, event: &Event) -> bool {
+/// Whether the space does this.
+pub(crate) fn is_answered<R: Wait>(
+    rt: &R,
+    keeper: &Keeper,
+    seat: &mut Seat,
+    event: &Event,
+) -> bool {
     keeper.call(rt, seat, event, 0).is_ok()
         && match seat.newest() {
             Some(receipt) => receipt.result.is_ok(),
