@@ -3,7 +3,7 @@ use Rattle.std.proofs.Common.{◌≡◌, ◌<◌, ◌≤◌, ◌^◌, true, refl
 use Rattle.clap.specs.Words.{is_simple, is_simple_and_free}
 use Rattle.nob_keeper.specs.declared.keep.Keep.{Keep}
 use Rattle.nob_keeper.specs.declared.keep.Keep.TheVariants.{All, Nothing}
-use Rattle.nob_demo_spaces.specs.Scenes.{most_calls}
+use Rattle.nob_demo_spaces.specs.Scenes.{most_spaces, most_calls}
 use Rattle.nob_demo_spaces.specs.Words.{nobj}
 
 pub simple : (keep : Keep) → is_simple (nobj keep) ≡ true
@@ -23,3 +23,13 @@ calls_fit Nothing = omega arith
 pub fifty_calls : (keep : Keep) → 50 ≤ most_calls keep
 fifty_calls All = omega arith
 fifty_calls Nothing = omega arith
+
+-- a number of spaces has 8 bits
+pub spaces_fit : (keep : Keep) → most_spaces keep < 2 ^ 8
+spaces_fit All = omega arith
+spaces_fit Nothing = omega arith
+
+-- and there may be three
+pub three_spaces : (keep : Keep) → 3 ≤ most_spaces keep
+three_spaces All = omega arith
+three_spaces Nothing = omega arith

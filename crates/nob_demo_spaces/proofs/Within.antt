@@ -20,7 +20,7 @@ use Rattle.clap.specs.declared.builder.value_parser.Reading.TheVariants.{AsWritt
 use Rattle.clap.proofs.ValueTestLemmas.{accepts-Accepts}
 use Rattle.nob_keeper.specs.declared.keep.Keep.{Keep}
 use Rattle.nob_keeper.specs.declared.keep.Keep.TheVariants as keeps
-use Rattle.nob_demo_spaces.specs.Scenes.{most_calls}
+use Rattle.nob_demo_spaces.specs.Scenes.{most_spaces, most_calls}
 use Rattle.nob_demo_spaces.specs.Options.{AreWithin, DrawIsWithin, IsWithin, SceneIsWithin, greatest}
 use Rattle.nob_demo_spaces.specs.Words.{TakenAreWithin, keep_in, nobj, takes_words, word_faults}
 use Rattle.nob_demo_spaces.proofs.Taken.{Good, IsOwn, find_own, good_level, left_none, never, right_none}
@@ -66,7 +66,7 @@ within c rows all lowest highest name has = go (one_of name rows) refl
 -- ---- the subcommands
 
 record HasNumbers (keep : Keep) (c : List Rule) : Type 0 where
-  spaces : HasNumber 2 8 (codes "spaces") c
+  spaces : HasNumber 2 (most_spaces keep) (codes "spaces") c
   workers : HasNumber 1 16 (codes "workers") c
   calls : HasNumber 0 (most_calls keep) (codes "calls") c
   loss : HasNumber 0 9 (codes "loss") c
@@ -156,7 +156,7 @@ no_kinds (k ∷ ks) e = absurd (true≢false (sym e))
 
 scene_within : (keep : Keep) (s : Shape) (rows : List Row) → All (Good s.rules) rows → HasNumbers keep s.rules → SceneIsWithin keep rows
 scene_within keep s rows all has = record {
-  spaces = within s.rules rows all 2 8 (codes "spaces") has.spaces;
+  spaces = within s.rules rows all 2 (most_spaces keep) (codes "spaces") has.spaces;
   workers = within s.rules rows all 1 16 (codes "workers") has.workers;
   calls = within s.rules rows all 0 (most_calls keep) (codes "calls") has.calls;
   loss = within s.rules rows all 0 9 (codes "loss") has.loss;

@@ -19,12 +19,12 @@ calls_line answered = codes "calls " ++ (decimal answered ++ codes "\n")
 abbrev pub total_line : ℤ → List ℕ
 total_line greatest = codes "total " ++ (signed_decimal greatest ++ codes "\n")
 
--- the line that says whether the traces are together a run of a world
+-- the line that says whether the chains are together a run of a world
 abbrev pub check_line : Bool → List ℕ
 check_line true = codes "check yes\n"
 check_line false = codes "check no\n"
 
--- the three lines of a scene whose traces were checked
+-- the three lines of a scene whose chains were checked
 abbrev pub lines : Score → Bool → List ℕ
 lines score is_accepted = calls_line score.answered ++ (total_line score.greatest ++ check_line is_accepted)
 
@@ -33,9 +33,9 @@ abbrev pub end_text : Option Reason → List ℕ
 end_text None = codes " open"
 end_text (Some reason) = codes " closed " ++ decimal (reason_number reason)
 
--- the peer of a session, how many items were handed to it and how many of its items were acted on
+-- the peer of a session, the session's number, how many items were handed to it and how many of its items were acted on
 abbrev pub counts_text : PeerTally → List ℕ
-counts_text session = codes " peer " ++ (decimal session.peer ++ (codes " sent " ++ (decimal session.tally.sent ++ (codes " acted " ++ decimal session.tally.acted))))
+counts_text session = codes " peer " ++ (decimal session.peer ++ (codes " session " ++ (decimal session.tally.session ++ (codes " sent " ++ (decimal session.tally.sent ++ (codes " acted " ++ decimal session.tally.acted))))))
 
 -- sessions, each with its peer, what went each way and how it stands
 abbrev pub sessions_text : List PeerTally → List ℕ

@@ -10,7 +10,7 @@ use Rattle.clap.specs.declared.builder.action.ArgAction.TheVariants.{SetTrue}
 use Rattle.clap.specs.declared.builder.value_parser.ValueParser.TheVariants.{Unsigned}
 use Rattle.nob_keeper.specs.declared.keep.Keep.{Keep}
 use Rattle.nob_keeper.specs.declared.keep.Keep.TheVariants.{All, Nothing}
-use Rattle.nob_demo_spaces.specs.Scenes.{Setting, most_calls}
+use Rattle.nob_demo_spaces.specs.Scenes.{Setting, most_spaces, most_calls}
 use Rattle.nob_demo_spaces.specs.declared.command_line.Subcommand.{Subcommand}
 use Rattle.nob_demo_spaces.specs.declared.command_line.Subcommand.TheVariants.{Draw}
 
@@ -37,7 +37,7 @@ last_rule Nothing = text_rule (codes "keep")
 
 -- the options of `spaces`, by what the nodes keep: five with a number in its range, and the last one
 abbrev pub spaces_rules : Keep → List Rule
-spaces_rules keep = number_rule (codes "spaces") 2 8 ∷ number_rule (codes "workers") 1 16 ∷ number_rule (codes "calls") 0 (most_calls keep) ∷ number_rule (codes "loss") 0 9 ∷ number_rule (codes "seed") 0 greatest ∷ last_rule keep ∷ []
+spaces_rules keep = number_rule (codes "spaces") 2 (most_spaces keep) ∷ number_rule (codes "workers") 1 16 ∷ number_rule (codes "calls") 0 (most_calls keep) ∷ number_rule (codes "loss") 0 9 ∷ number_rule (codes "seed") 0 greatest ∷ last_rule keep ∷ []
 
 -- the subcommand `spaces` as clap sees it, by what the nodes keep
 abbrev pub spaces_shape : Keep → Shape
@@ -82,7 +82,7 @@ IsWithin lowest highest text = IfSome text (IsUnsignedIn lowest highest)
 
 -- the options of `spaces` of which clap found these rows say numbers in range, by what the nodes keep
 pub record SceneIsWithin (keep : Keep) (rows : List Row) : Type 0 where
-  pub spaces : IsWithin 2 8 (one_of (codes "spaces") rows)
+  pub spaces : IsWithin 2 (most_spaces keep) (one_of (codes "spaces") rows)
   pub workers : IsWithin 1 16 (one_of (codes "workers") rows)
   pub calls : IsWithin 0 (most_calls keep) (one_of (codes "calls") rows)
   pub loss : IsWithin 0 9 (one_of (codes "loss") rows)

@@ -3,7 +3,7 @@ use Rattle.std.specs.Prelude.{◌≤◌, ℕ, Bool}
 use Rattle.nob_keeper.specs.declared.keep.Keep.{Keep}
 use Rattle.nob_keeper.specs.declared.keep.Keep.TheVariants.{All, Nothing}
 
--- a scene: its spaces, the workers of each, calls in all, frames of ten that are lost, where chances start, whether traces are printed, and what the nodes keep of their entries
+-- a scene: its spaces, the workers of each, calls in all, frames of ten that are lost, where chances start, whether chains are printed, and what the nodes keep of their entries
 pub record Setting : Type 0 where
   pub spaces : ℕ
   pub workers : ℕ
@@ -22,6 +22,11 @@ abbrev pub most_calls : Keep → ℕ
 most_calls All = 10000
 most_calls Nothing = 1000000000
 
--- there are 2 to 8 spaces, 1 to 16 workers and at most so many calls, by what the nodes keep, and at most 9 frames of ten are lost
+-- so many spaces there are at most, by what the nodes keep
+abbrev pub most_spaces : Keep → ℕ
+most_spaces All = 8
+most_spaces Nothing = 32
+
+-- there are at least 2 spaces and at most so many, 1 to 16 workers and at most so many calls, by what the nodes keep, and at most 9 frames of ten are lost
 abbrev pub CanBePlayed : Keep → (spaces workers calls loss : ℕ) → Type 0
-CanBePlayed keep spaces workers calls loss = IsBetween 2 8 spaces × IsBetween 1 16 workers × IsBetween 0 (most_calls keep) calls × IsBetween 0 9 loss
+CanBePlayed keep spaces workers calls loss = IsBetween 2 (most_spaces keep) spaces × IsBetween 1 16 workers × IsBetween 0 (most_calls keep) calls × IsBetween 0 9 loss

@@ -85,40 +85,50 @@ A script, and what it prints:
 Example: nobj script < examples/spaces/world/whole-life.in";
 
 const CHECK_HELP: &str = "\
-What is read are traces, one after the other, one of each space. A trace says
-what its space was asked and what it answered. Its first line is
+What is read are traces or chains, one after the other, one of each space. A
+trace says what its space was asked and what it answered. Its first line is
 
-  trace S of N window W retry R entries K
+  trace2 S of N window W retry R entries K
 
 (space S of N; W 1 to 64, R 1 to 255), and K lines `STAMP EVENT = RESULT` follow,
 whose stamps rise. Events and results are those of a script (nobj script --help)
 but for two: `arrive HEX` has the bytes of the frame that arrives, and `send P`
-is answered by `frames` and the bytes of each frame, or `frames none`.
+is answered by `frames` and the bytes of each frame, or `frames none`. (`trace`
+in place of `trace2` has frames of version 1.)
+
+A chain has the same lines in K segments, with what the space then says of itself
+behind each (nobj spaces --traces writes chains):
+
+  chain S of N window W retry R segments K
+  segment I entries E                       I from 1 on; E lines follow, and then
+  seal STAMP live L peer P session M sent A acted B open peer ..
 
 What is written: `merged K` and `verdict yes`, where together they are what N
 spaces did with the K entries in order of stamp: then all is true of them that is
 proved of such runs. Else the one fault:
 
-  R1           a trace isn't all there
-  R2           a line is no line of a trace
+  R1           a trace or a chain isn't all there
+  R2           a line is no line of one that is due there
   R3           a stamp doesn't rise
-  C4           they aren't one trace of each space
+  R6           a segment is out of turn, or has no entries
+  C4           they aren't one of each space
   C1 S PLACE   the space's entry there isn't the one right answer
+  C5 S I       the seal of its segment I isn't what the space says of itself
   C2 S PLACE   the frame that arrives there was sent by no space
   C3 S PLACE   it was sent by none before
   memory       there was none
 
 Traces, and what is written for them:
 
-  trace 1 of 2 window 8 retry 16 entries 1      merged 1
+  trace2 1 of 2 window 8 retry 16 entries 1     merged 1
   1 export = exported 1.1                       verdict yes
-  trace 2 of 2 window 8 retry 16 entries 0
+  trace2 2 of 2 window 8 retry 16 entries 0
 
 Example: nobj check < examples/spaces/check/three-traces-accepted.traces";
 
 const DRAW_HELP: &str = "\
-What is read are traces, as `nobj check` reads them. What is written is one SVG,
-which a browser shows: a lifeline for each space; a row for each entry, in order
+What is read are traces and chains, as `nobj check` reads them. What is written
+is one SVG, which a browser shows: a lifeline for each space; a row for each entry, in order
 of stamp, with what the space was asked and what it answered; an arrow for each
 frame that arrives, and a cross where one is lost; and bars where an object is
 live (green), a client is listed (blue) and a reference is pinned (orange).
@@ -127,9 +137,10 @@ Rows count from 1. With --from and --to only those from K to L are drawn, as far
 as there are any: none where K is greater than L. It is for pages: what it costs
 grows faster than the cube of how many entries are read.
 
-An entry that `nobj check` finds wrong is red, and the status is 1. Where the
-input isn't traces, or they aren't one of each space, there is no drawing but
-the line that `nobj check` writes (R1, R2, R3 or C4), or `memory`.
+An entry that `nobj check` finds wrong is red, of a wrong seal the last entry
+before it, and the status is 1. Where the input isn't traces and chains, or they
+aren't one of each space, there is no drawing but the line that `nobj check`
+writes (R1, R2, R3, R6 or C4), or `memory`.
 
 Example: nobj draw < examples/spaces/check/whole-life.traces > whole-life.svg";
 
@@ -143,23 +154,24 @@ What is written:
 
   calls K      so many calls were answered
   total T      the greatest total that the counter answered
-  check yes    the traces of all spaces are together a run of a world
+  check yes    the chains of all spaces are together a run of a world
 
 or one line: `full`, where a trace was full, or `memory`, where there was none.
-With --traces the traces are written in place of these lines, for nobj check:
-it says `merged ..` and `verdict yes`.
+With --traces the chains are written in place of these lines, for nobj check: what
+each space did, in segments with seals. It says `merged ..` and `verdict yes`.
 
-With `--keep nothing` (just so, or `--keep=nothing`) the spaces keep no traces,
-so K may be up to 1000000000, and there is no --traces. What is written then:
+With `--keep nothing` (just so, or `--keep=nothing`) the spaces keep no chains,
+so N may be up to 32 and K up to 1000000000, and there is no --traces. What is
+written then:
 
   calls K      as above
   total T      as above
-  unchecked    there are no traces to check
-  summary S entries E stamp T live L peer P sent M acted A open peer ..
+  unchecked    there are no chains to check
+  summary S entries E stamp T live L peer P session H sent M acted A open peer ..
 
 a summary for each space S: it made E entries, of which the last has stamp T; L
-of its objects are live; and of each peer P: M items were handed to it, A of its
-items were acted on, and the session is open, or `closed R` for reason R.
+of its objects are live; and of each peer P: in session H, M items were handed to
+it, A of its items were acted on, and it is open, or `closed R` for reason R.
 
 Example: nobj spaces --spaces 4 --loss 3 --traces | nobj check";
 
@@ -170,9 +182,9 @@ pub enum Subcommand {
     Pair,
     /// A script of a world of spaces is run.
     Script,
-    /// Traces of spaces are checked.
+    /// Traces and chains of spaces are checked.
     Check,
-    /// Traces of spaces are drawn.
+    /// Traces and chains of spaces are drawn.
     Draw {
         /// The first row of the drawing, counted from 1.
         from: usize,

@@ -6,13 +6,13 @@ ghost use Rattle.nob_demo_spaces.specs.Lines as spec;
 /// How a scene ends.
 #[derive(Clone, Copy, Debug, PartialEq, Eq)]
 pub enum Ending {
-    /// The traces are together a run of a world.
+    /// The chains are together a run of a world, and their seals are right.
     Accepted,
     /// They aren't, or one that is to be printed has no text.
     Refused,
-    /// The traces are printed.
+    /// The chains are printed.
     Printed,
-    /// There are no traces, since nothing was kept.
+    /// There are no chains, since nothing was kept.
     Unchecked,
     /// A trace was full.
     Full,

@@ -1,6 +1,6 @@
 //! The words of the command line of `nobj`, and why a run ends before its input does. And what
 //! `nobj spaces` does: spaces in threads of one process, of which the first exports a counter that
-//! the others call; and then their traces are checked, or told in numbers where none were kept.
+//! the others call; and then their chains are checked, or told in numbers where none were kept.
 #![tactic(auto)]
 
 mod command_line;

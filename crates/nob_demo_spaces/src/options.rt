@@ -4,7 +4,7 @@ ghost use Rattle.std.specs.Prelude.{◌≡◌, ◌≤◌, codes, false, IfOk};
 ghost use Rattle.clap.specs.Words.{app_of, found_of, new_app, one_of, rows_of, rule_of, shape_of};
 ghost use Rattle.clap.specs.declared.builder.command.Command.TheViews.{out-Command as fields_of};
 ghost use Rattle.nob_demo_spaces.specs.Options.{draw_in, draw_shape, flag_rule, is_said, last_rule, number_rule, setting_in, spaces_shape, text_rule, DrawIsWithin, SceneIsWithin};
-ghost use Rattle.nob_demo_spaces.specs.Scenes.{most_calls};
+ghost use Rattle.nob_demo_spaces.specs.Scenes.{most_calls, most_spaces};
 
 use crate::command_line::Subcommand;
 use crate::scene::Scene;
@@ -25,12 +25,25 @@ pub fn with_scene<'a>(
     ensures local { IfOk result (λ command. (fields_of command).has_globals ≡ false) }
 {
     spaces
-        .arg(number(alloc, "spaces", "N", 2, 8).help("How many spaces: 2 to 8, else 3"))?
+        .arg(how_many(alloc, keep))?
         .arg(number(alloc, "workers", "W", 1, 16).help("Workers of each space: 1 to 16, else 2"))?
         .arg(calls(alloc, keep))?
         .arg(number(alloc, "loss", "L", 0, 9).help("Frames of ten that are lost: 0 to 9, else 0"))?
         .arg(number(alloc, "seed", "X", 0, u64::MAX).help("Where chances start: a u64, else 1"))?
         .arg(last(alloc, keep))
+}
+
+// The option that says how many spaces there are, by what the nodes keep.
+fn how_many<'a>(alloc: Global, keep: Keep) -> Arg<'a>
+    ensures rule { rule_of result ≡ number_rule (codes "spaces") 2 (most_spaces keep) }
+    ensures local { result.global ≡ false }
+{
+    match keep {
+        Keep::All => number(alloc, "spaces", "N", 2, 8).help("How many spaces: 2 to 8, else 3"),
+        Keep::Nothing => {
+            number(alloc, "spaces", "N", 2, 32).help("How many spaces: 2 to 32, else 3")
+        }
+    }
 }
 
 // The option that says how many calls are made, by what the nodes keep.

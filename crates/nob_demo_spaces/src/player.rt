@@ -152,11 +152,11 @@ impl<'m> App<Counter> for Player<'m> {
     }
 }
 
-// Why a scene stops whose keeper makes no entry. That it should be another error than these two
-// doesn't come.
+// Why a scene stops whose keeper makes no entry: its trace is full, or else there is no memory, as no
+// other error comes.
 pub(crate) fn stop_of(error: KeeperError) -> Stop {
     match error {
-        KeeperError::TraceFull => Stop::Full,
+        KeeperError::Stamp => Stop::Full,
         _ => Stop::OutOfMemory,
     }
 }

@@ -8,15 +8,15 @@ use crate::meeting::Meeting;
 use crate::places::{Place, Played, places_of};
 use crate::scene::Scene;
 use crate::{Ending, Score, Stop, graver, say};
+use nob_chain::Chain;
 use nob_node::{Record, Summary};
-use nob_trace::Trace;
 use std::alloc::Global;
 use std::sync::Wait;
 use std::thread::{self, Threads};
 
-/// Plays a scene, and writes onto an empty text what came of it: the three lines, or the traces, or
-/// the summaries behind the lines; and how it ended, whose last line is still to follow. It makes a thread for each space, and each
-/// of these makes those of its node.
+/// Plays a scene, and writes onto an empty text what came of it: the three lines, or the chains, or
+/// the summaries behind the lines; and how it ended, whose last line is still to follow. It makes a
+/// thread for each space, and each of these makes those of its node.
 pub fn play<R: Threads + Wait + Sync>(
     rt: &R,
     alloc: Global,
@@ -51,24 +51,31 @@ fn say_of(alloc: Global, scene: Scene, places: Vec<Place>, text: &mut Vec<u8>) -
     requires { text.old.items ≡ [] }
     ensures { Plays scene (text.new.items ++ last_line result) result }
 {
-    let mut traces = Vec::new(alloc);
+    let mut chains = Vec::new(alloc);
     let mut summaries = Vec::new(alloc);
-    let (stop, score) = summed(places, &mut traces, &mut summaries);
-    let (traces, summaries) = (traces.as_slice(), summaries.as_slice());
-    say(alloc, scene, stop, score, traces, summaries, text)
+    let (stop, score) = summed(places, &mut chains, &mut summaries);
+    say(
+        alloc,
+        scene,
+        stop,
+        score,
+        chains,
+        summaries.as_slice(),
+        text,
+    )
 }
 
 // Why the scene stops, if a space stopped or there is no memory for what they left, and what callers
 // counted.
 fn summed(
     places: Vec<Place>,
-    traces: &mut Vec<Trace>,
+    chains: &mut Vec<Chain>,
     summaries: &mut Vec<Summary>,
 ) -> (Option<Stop>, Score) {
     let mut stop = None;
     let mut score = Score::new();
     for place in places {
-        match kept(place.into_left(), traces, summaries) {
+        match kept(place.into_left(), chains, summaries) {
             Ok(counted) => score = score.with_score(counted),
             Err(reason) => stop = Some(graver(reason, stop)),
         }
@@ -76,15 +83,15 @@ fn summed(
     (stop, score)
 }
 
-// What the callers of a space counted, whose trace or summary is put behind the others.
+// What the callers of a space counted, whose chain or summary is put behind the others.
 fn kept(
     left: Result<Played, Stop>,
-    traces: &mut Vec<Trace>,
+    chains: &mut Vec<Chain>,
     summaries: &mut Vec<Summary>,
 ) -> Result<Score, Stop> {
     let Played { score, record } = left?;
     let is_kept = match record {
-        Record::Trace(trace) => traces.push(trace).is_ok(),
+        Record::Chain(chain) => chains.push(chain).is_ok(),
         Record::Summary(summary) => summaries.push(summary).is_ok(),
     };
     if is_kept {

@@ -1,7 +1,7 @@
 //! What `nobj spaces` plays.
 
 ghost use Rattle.std.specs.Prelude.{◌≡◌};
-ghost use Rattle.nob_demo_spaces.specs.Scenes.{IsBetween, CanBePlayed, most_calls};
+ghost use Rattle.nob_demo_spaces.specs.Scenes.{IsBetween, CanBePlayed, most_calls, most_spaces};
 
 use nob_node::Keep;
 use std::marker::Model;
@@ -83,7 +83,7 @@ impl Scene {
     /// How many spaces there are.
     pub fn spaces(self) -> u8
         ensures value { result ≡ self.spaces }
-        ensures range { IsBetween 2 8 result }
+        ensures range { IsBetween 2 (most_spaces self.keep) result }
     {
         self.spaces
     }
@@ -119,7 +119,7 @@ impl Scene {
         self.seed
     }
 
-    /// Whether the traces are printed.
+    /// Whether the chains are printed.
     pub fn traces(self) -> bool
         ensures { result ≡ self.traces }
     {

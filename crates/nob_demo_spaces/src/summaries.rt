@@ -66,14 +66,15 @@ fn put_sessions(alloc: Global, text: &mut String, sessions: &[PeerTally]) -> Res
     Ok(())
 }
 
-// The peer of a session, and what went each way.
+// The peer of a session, the session's number, and what went each way.
 fn counts_text(alloc: Global, session: &PeerTally) -> Result<String, AllocError>
     ensures { IfOk result (λ text. string_bytes text ≡ spec.counts_text session.now) }
 {
     let peer = session.peer.get();
+    let number = session.tally.session;
     let sent = session.tally.sent;
     let acted = session.tally.acted;
-    format!(in alloc; " peer {peer} sent {sent} acted {acted}")
+    format!(in alloc; " peer {peer} session {number} sent {sent} acted {acted}")
 }
 
 // How a session stands.

@@ -7,7 +7,7 @@ ghost use Rattle.nob_demo_spaces.specs.Lines as spec;
 use crate::score::Score;
 use std::alloc::{AllocError, Global};
 
-// The three lines of a scene whose traces were checked.
+// The three lines of a scene whose chains were checked.
 pub(crate) fn lines(alloc: Global, score: Score, is_accepted: bool) -> Result<Vec<u8>, AllocError>
     ensures { IfOk result (λ text. text.items ≡ spec.lines score is_accepted) }
 {
@@ -32,7 +32,7 @@ pub(crate) fn total_line(alloc: Global, greatest: i64) -> Result<String, AllocEr
     format!(in alloc; "total {greatest}\n")
 }
 
-// The line that says whether the traces are together a run of a world.
+// The line that says whether the chains are together a run of a world.
 fn check_line(is_accepted: bool) -> &'static [u8]
     ensures { result.now ≡ spec.check_line is_accepted }
 {

@@ -1,2 +1,3 @@
 pub mod WrittenChecks
 pub mod WrittenDrawings
+pub mod Judged

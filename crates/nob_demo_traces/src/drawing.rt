@@ -1,25 +1,27 @@
 //! What `nobj draw` does with a whole input.
 
 ghost use Rattle.std.specs.Prelude.{◌≡◌, ◌++◌, [], ℕ, List, IfOk};
-ghost use Rattle.nob_model_traces.specs.Faults.{IsFault};
-ghost use Rattle.nob_model_traces.specs.Traces.{Spells};
+ghost use Rattle.nob_chain.specs.declared.chain.ChainParts.{ChainParts as Parts};
+ghost use Rattle.nob_chain.specs.Inputs.{AreSpelt};
+ghost use Rattle.nob_demo_traces.specs.Judging.{IsJudged};
 ghost use Rattle.nob_demo_traces.specs.Draws as spec;
 
 use crate::drawn::{drawn, drawn_wrong};
-use crate::place::is_of_entry;
-use crate::set::{entries_of, spaces_of};
-use nob_check::check;
-use nob_model_traces::{CheckError, CheckFault};
-use nob_trace::{Trace, TraceError, decode_all, refusal_line};
+use crate::judging::judged;
+use crate::set::spaces_of;
+use nob_chain::{Chain, ChainError, decode_all, refusal_line};
+use nob_model_chains::are_one_each;
+use nob_model_traces::WrongEntry;
+use nob_model_types::Entry;
 use std::alloc::{AllocError, Global};
 
 /// How drawing ends.
 #[derive(Clone, Copy, Debug, PartialEq, Eq)]
 pub enum Ending {
-    /// The traces are a run of a world, and were drawn.
+    /// The chains are a run of a world, their seals are right, and they were drawn.
     Drawn,
-    /// They aren't: the entry that is wrong is drawn in red. Or nothing is drawn, and the line that
-    /// is written says why.
+    /// They aren't: the entry that is wrong, or the one in front of a wrong seal, is drawn in red.
+    /// Or nothing is drawn, and the line that is written says why.
     Refused,
     /// Memory ran out.
     OutOfMemory,
@@ -47,10 +49,10 @@ pub struct Part {
     pub to: usize,
 }
 
-/// Writes the drawing of an input, which should be traces one after the other, onto an empty text;
-/// or, where it isn't traces or these don't belong together, the line that `nobj check` writes. The
-/// ending's last line is still to follow. What is held is read anew after each entry, so it costs
-/// the cube of how many entries there are.
+/// Writes the drawing of an input, which should be chains and traces one after the other, onto an
+/// empty text; or, where it is neither or they don't belong together, the line that `nobj check`
+/// writes. The ending's last line is still to follow. What is held is read anew after each entry,
+/// so it costs the cube of how many entries there are.
 pub fn play(alloc: Global, input: &[u8], part: Part, text: &mut Vec<u8>) -> Ending
     requires { text.old.items ≡ [] }
     ensures { spec.Draws input.now part (text.new.items ++ spec.last_line result) result }
@@ -70,49 +72,50 @@ fn bytes_of(alloc: Global, input: &[u8], part: Part) -> Result<(Vec<u8>, Ending)
         (said.0.items ++ spec.last_line said.1) said.1) }
 {
     match decode_all(alloc, input) {
-        Ok(traces) => bytes_of_traces(alloc, traces.as_slice(), part),
-        Err(TraceError::OutOfMemory) => Err(AllocError),
-        Err(TraceError::Fault(fault)) => Ok((
-            refusal_line(TraceError::Fault(fault)).to_vec(alloc)?,
+        Ok(chains) => bytes_of_chains(alloc, chains, part),
+        Err(ChainError::OutOfMemory) => Err(AllocError),
+        Err(ChainError::Fault(fault)) => Ok((
+            refusal_line(ChainError::Fault(fault)).to_vec(alloc)?,
             Ending::Refused,
         )),
     }
 }
 
-// What is written for traces, and how it ends.
-fn bytes_of_traces(
+// What is written for chains, and how it ends.
+fn bytes_of_chains(
     alloc: Global,
-    traces: &[Trace],
+    chains: Vec<Chain>,
     part: Part,
 ) -> Result<(Vec<u8>, Ending), AllocError>
-    ensures { (input : List ℕ) → Spells input traces.now → IfOk result (λ said.
+    ensures { (input : List ℕ) → AreSpelt input chains.items → IfOk result (λ said.
         spec.Draws input part (said.0.items ++ spec.last_line said.1) said.1) }
 {
-    match check(alloc, traces) {
-        Ok(merged) => {
-            let bytes = drawn(alloc, spaces_of(traces), part, merged.into_vec())?;
-            Ok((bytes, Ending::Drawn))
-        }
-        Err(CheckError::Fault(fault)) => bytes_of_wrong(alloc, traces, part, fault),
-        Err(CheckError::OutOfMemory) => Err(AllocError),
-    }
-}
-
-// What is written for traces that this is wrong with.
-fn bytes_of_wrong(
-    alloc: Global,
-    traces: &[Trace],
-    part: Part,
-    fault: CheckFault,
-) -> Result<(Vec<u8>, Ending), AllocError>
-    requires { IsFault traces.now fault }
-    ensures { (input : List ℕ) → Spells input traces.now → IfOk result (λ said.
-        spec.Draws input part (said.0.items ++ spec.last_line said.1) said.1) }
-{
-    if !is_of_entry(fault) {
+    if !are_one_each(chains.as_slice()) {
         return Ok((b"C4\n".as_slice().to_vec(alloc)?, Ending::Refused));
     }
-    let merged = entries_of(alloc, traces)?;
-    let bytes = drawn_wrong(alloc, spaces_of(traces), part, fault, merged)?;
-    Ok((bytes, Ending::Refused))
+    let n = spaces_of(chains.as_slice());
+    let (merged, wrong) = judged(alloc, chains)?;
+    bytes_of_entries(alloc, n, part, merged, wrong)
+}
+
+// What is written for the entries of chains of so many spaces, and how it ends.
+fn bytes_of_entries(
+    alloc: Global,
+    n: u16,
+    part: Part,
+    merged: Vec<Entry>,
+    wrong: Option<WrongEntry>,
+) -> Result<(Vec<u8>, Ending), AllocError>
+    ensures { (input : List ℕ) (chains : List Parts) → AreSpelt input chains
+        → IsJudged chains merged.items wrong → n ≡ spec.spaces_of chains
+        → IfOk result (λ said.
+        spec.Draws input part (said.0.items ++ spec.last_line said.1) said.1) }
+{
+    match wrong {
+        Some(entry) => {
+            let bytes = drawn_wrong(alloc, n, part, entry, merged)?;
+            Ok((bytes, Ending::Refused))
+        }
+        None => Ok((drawn(alloc, n, part, merged)?, Ending::Drawn)),
+    }
 }

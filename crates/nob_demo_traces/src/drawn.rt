@@ -4,9 +4,9 @@ ghost use Rattle.std.specs.Prelude.{◌≡◌, IfOk, reverse, None};
 ghost use Rattle.nob_demo_traces.specs.Draws as spec;
 
 use crate::drawing::Part;
-use crate::place::fault_row;
+use crate::place::row_of;
 use nob_drawing::{Page, drawing, height_of, svg_text, width_of};
-use nob_model_traces::CheckFault;
+use nob_model_traces::WrongEntry;
 use nob_model_types::Entry;
 use std::alloc::{AllocError, Global};
 
@@ -56,14 +56,14 @@ pub(crate) fn drawn_wrong(
     alloc: Global,
     n: u16,
     part: Part,
-    fault: CheckFault,
+    wrong: WrongEntry,
     mut merged: Vec<Entry>,
 ) -> Result<Vec<u8>, AllocError>
     ensures { IfOk result (λ text. text.items
-        ≡ spec.svg_of n part (spec.fault_row fault (reverse merged.items))
+        ≡ spec.svg_of n part (spec.row_of wrong.space wrong.place (reverse merged.items))
         (reverse merged.items)) }
 {
     merged.reverse();
-    let row = fault_row(fault, merged.as_slice());
+    let row = row_of(wrong.space, wrong.place, merged.as_slice());
     svg_of(alloc, n, part, row, merged.as_slice())
 }

@@ -1,11 +1,10 @@
-//! Where a fault is.
+//! Where an entry is.
 
 ghost use Rattle.std.specs.Prelude.{◌≡◌, ◌≤◌, length};
 ghost use Rattle.nob_model_journal.specs.Journals.{at};
 ghost use Rattle.nob_demo_traces.specs.Draws as spec;
 
 use nob_ids::SpaceId;
-use nob_model_traces::CheckFault;
 use nob_model_types::Entry;
 
 // How many entries of a space a journal has.
@@ -25,7 +24,7 @@ fn is_at(space: SpaceId, place: usize, entry: &Entry, older: &[Entry]) -> bool
 
 // The row of the entry of a space at this place among the space's own, in a journal, the newest
 // entry of which stands first.
-fn row_of(space: SpaceId, place: usize, journal: &[Entry]) -> Option<usize>
+pub(crate) fn row_of(space: SpaceId, place: usize, journal: &[Entry]) -> Option<usize>
     ensures { result ≡ spec.row_of space place journal.now }
 {
     for newer in 0..journal.len() {
@@ -35,28 +34,4 @@ fn row_of(space: SpaceId, place: usize, journal: &[Entry]) -> Option<usize>
         }
     }
     None
-}
-
-// The row of the entry that is wrong.
-pub(crate) fn fault_row(fault: CheckFault, journal: &[Entry]) -> Option<usize>
-    ensures { result ≡ spec.fault_row fault journal.now }
-{
-    match fault {
-        CheckFault::Set => None,
-        CheckFault::NotARun(space, place) => row_of(space, place, journal),
-        CheckFault::NoOrigin(space, place) => row_of(space, place, journal),
-        CheckFault::Stamp(space, place) => row_of(space, place, journal),
-    }
-}
-
-// Whether a fault is of an entry, of traces that belong together.
-pub(crate) fn is_of_entry(fault: CheckFault) -> bool
-    ensures { result ≡ spec.is_of_entry fault }
-{
-    match fault {
-        CheckFault::Set => false,
-        CheckFault::NotARun(_, _) => true,
-        CheckFault::NoOrigin(_, _) => true,
-        CheckFault::Stamp(_, _) => true,
-    }
 }

@@ -1,12 +1,15 @@
-//! What is drawn of a set of traces.
+//! Chains that belong together.
 
-ghost use Rattle.std.specs.Prelude.{◌≡◌, true, IfOk, IfErr};
+ghost use Rattle.std.specs.Prelude.{◌≡◌, true, IfOk, map};
 ghost use Rattle.std.specs.List.{AllByRecursion};
 ghost use Rattle.nob_trace.specs.Stamps.{Rise};
+ghost use Rattle.nob_chain.specs.Chains.{joined};
 ghost use Rattle.nob_model_traces.specs.Merged.{IsMerged};
 ghost use Rattle.nob_model_traces.specs.Traces.{are_one_each};
 ghost use Rattle.nob_demo_traces.specs.Draws as spec;
 
+use nob_chain::Chain;
+use nob_chain_check::all_joined;
 use nob_model_traces::merge;
 use nob_model_types::Entry;
 use nob_trace::Trace;
@@ -25,21 +28,22 @@ fn all_rise(traces: &[Trace])
     }
 }
 
-// The entries of traces that belong together, in order of stamp.
-pub(crate) fn entries_of(alloc: Global, traces: &[Trace]) -> Result<Vec<Entry>, AllocError>
-    requires { are_one_each traces.now ≡ true }
-    ensures { IfOk result (λ merged. IsMerged traces.now merged.items) }
+// The entries of chains that belong together, in order of stamp.
+pub(crate) fn entries_of(alloc: Global, chains: Vec<Chain>) -> Result<Vec<Entry>, AllocError>
+    requires { are_one_each (map joined chains.items) ≡ true }
+    ensures { IfOk result (λ merged. IsMerged (map joined chains.items) merged.items) }
 {
-    all_rise(traces);
-    merge(alloc, traces)
+    let traces = all_joined(alloc, chains)?;
+    all_rise(traces.as_slice());
+    merge(alloc, traces.as_slice())
 }
 
-// How many spaces there are, by the first trace.
-pub(crate) fn spaces_of(traces: &[Trace]) -> u16
-    ensures { result ≡ spec.spaces_of traces.now }
+// How many spaces there are, by the first chain.
+pub(crate) fn spaces_of(chains: &[Chain]) -> u16
+    ensures { result ≡ spec.spaces_of chains.now }
 {
-    match traces {
+    match chains {
         [] => 0,
-        [trace, ..] => trace.n.get(),
+        [chain, ..] => chain.parts().n.get(),
     }
 }

@@ -1,13 +1,15 @@
 //! What can be seen of a space.
 
-ghost use Rattle.std.specs.Prelude.{◌≡◌, ◌≤◌, ◌-◌, ℕ, List, false, IsSome, is_some};
+ghost use Rattle.std.specs.Prelude.{◌≡◌, ◌≤◌, ◌-◌, ℕ, List, true, false, IsSome, is_some};
 ghost use Rattle.std.specs.Int.{bit_at};
 ghost use Rattle.nob_ids.specs.Names.{IsSpace};
 ghost use Rattle.nob_model_types.specs.declared.entry.Entry.{Entry};
 ghost use Rattle.nob_model_types.specs.Deeds.{deeds};
+ghost use Rattle.nob_model_types.specs.Sessions.{is_peer};
 ghost use Rattle.nob_model_history.specs.Histories.{history};
 ghost use Rattle.nob_model_history.specs.Listing.{is_listed};
 ghost use Rattle.nob_model.specs.Next as next;
+ghost use Rattle.nob_model.specs.Tallies as tallies;
 ghost use Rattle.nob_space_state.specs.Dues as dues;
 ghost use Rattle.nob_space.specs.Spaces.{StandsFor};
 ghost use Rattle.nob_host_space.specs.Bits.{bit_of};
@@ -15,7 +17,7 @@ ghost use Rattle.nob_host_space.specs.Kept.{Through};
 ghost use Rattle.nob_host_space.specs.Looks as looks;
 ghost use Rattle.nob_host_space.specs.Looks.{ShowsWork};
 
-use nob_host_space::{Handle, Work};
+use nob_host_space::{Handle, Tally, Work};
 use std::alloc::Global;
 
 /// The number of the space.
@@ -95,10 +97,44 @@ pub extern "C" fn nob_due(handle: &mut Handle, alloc: Global, peer: u16) -> u32
 #[unsafe(no_mangle)]
 pub extern "C" fn nob_work(handle: &mut Handle, alloc: Global, work: &mut Work)
     requires { IsSome handle.old.held }
-    ensures work { Through handle.old.held handle.new.held (λ old new. ShowsWork old.space work.new) }
+    ensures work { Through handle.old.held handle.new.held
+        (λ old new. ShowsWork old.space work.new) }
     ensures same { Through handle.old.held handle.new.held (λ old new. new ≡ old) }
 {
     let host = handle.take(alloc);
     *work = host.work();
     handle.put(host);
+}
+
+/// What went each way on the present session with a peer, and how it ended: all is 0 where the
+/// number is no peer's.
+#[unsafe(no_mangle)]
+pub extern "C" fn nob_tally(handle: &mut Handle, alloc: Global, peer: u16, tally: &mut Tally)
+    requires { IsSome handle.old.held }
+    ensures tally { IsSpace peer → Through handle.old.held handle.new.held (λ old new. is_peer
+        old.space.id old.space.n peer ≡ true → (L : List Entry) → StandsFor old.space L
+        → tally.new ≡ looks.tally_in_numbers (tallies.tally peer (looks.past_of old.space L))) }
+    ensures none { Through handle.old.held handle.new.held (λ old new. is_peer old.space.id
+        old.space.n peer ≡ false → tally.new ≡ looks.tally_of_none) }
+    ensures range { (IsSpace peer → ⊥) → tally.new ≡ looks.tally_of_none }
+    ensures same { Through handle.old.held handle.new.held (λ old new. new ≡ old) }
+{
+    let host = handle.take(alloc);
+    *tally = host.tally(peer);
+    handle.put(host);
+}
+
+/// How many objects are live.
+#[unsafe(no_mangle)]
+pub extern "C" fn nob_live(handle: &mut Handle, alloc: Global) -> u64
+    requires { IsSome handle.old.held }
+    ensures live { Through handle.old.held handle.new.held (λ old new. (L : List Entry)
+        → StandsFor old.space L → result ≡ tallies.live_count old.space.id
+        (looks.past_of old.space L)) }
+    ensures same { Through handle.old.held handle.new.held (λ old new. new ≡ old) }
+{
+    let host = handle.take(alloc);
+    let live = host.live();
+    handle.put(host);
+    live
 }

@@ -1,13 +1,17 @@
 -- What can be seen of a space, in numbers. The newest entry of a space stands FIRST.
 use Rattle.std.specs.Prelude.{◌≡◌, ◌≤◌, ℕ, ◌-◌, List, Option, Some, None, is_some}
 use Rattle.std.specs.Int.{bit_at}
+use Rattle.nob_ids.specs.Reasons.{reason_number}
+use Rattle.nob_ids.specs.declared.reason.Reason.{Reason}
 use Rattle.nob_model_types.specs.declared.entry.Entry.{Entry}
+use Rattle.nob_model_types.specs.declared.tally.Tally.{Tally as SessionTally}
 use Rattle.nob_model_history.specs.declared.history.History.{History}
 use Rattle.nob_model_history.specs.Histories.{history}
 use Rattle.nob_model.specs.Next.{can_act, can_send, can_settle, can_clean, can_claim, to_withdraw}
 use Rattle.nob_space.specs.Spaces.{Owner, StandsFor}
 use Rattle.nob_host_space.specs.Bits.{bit_of}
 use Rattle.nob_host_space.specs.declared.looks.Work.{Work}
+use Rattle.nob_host_space.specs.declared.looks.Tally.{Tally}
 use Rattle.nob_session.specs.declared.due.Due.{Due}
 use Rattle.nob_session.specs.declared.due.Due.TheVariants as dues
 
@@ -23,6 +27,19 @@ due_number dues.Ack = 1
 due_number dues.Again = 2
 due_number dues.New = 3
 due_number dues.Close = 4
+
+-- the number of the reason why an end closed, or 0 where it is open
+abbrev pub ending_number : Option Reason → ℕ
+ending_number (Some reason) = reason_number reason
+ending_number None = 0
+
+-- the tally of a session in numbers
+abbrev pub tally_in_numbers : SessionTally → Tally
+tally_in_numbers tally = record { session = tally.session; closed = ending_number tally.closed; sent = tally.sent; acted = tally.acted }
+
+-- the tally of no session
+abbrev pub tally_of_none : Tally
+tally_of_none = record { session = 0; closed = 0; sent = 0; acted = 0 }
 
 -- what a space did that these entries tell
 abbrev pub past_of : Owner → List Entry → History

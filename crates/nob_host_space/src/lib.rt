@@ -18,5 +18,5 @@ mod waiting;
 
 pub use handle::Handle;
 pub use host::Host;
-pub use looks::Work;
+pub use looks::{Tally, Work};
 pub use told::Told;

@@ -1,12 +1,14 @@
 //! What can be seen of a space, in numbers.
 
-ghost use Rattle.std.specs.Prelude.{◌≡◌, ◌++◌, List, false, length, take, drop};
+ghost use Rattle.std.specs.Prelude.{◌≡◌, ◌++◌, List, true, false, length, take, drop};
 ghost use Rattle.nob_ids.specs.Names.{IsSpace};
 ghost use Rattle.nob_model_types.specs.declared.entry.Entry.{Entry};
 ghost use Rattle.nob_model_types.specs.Deeds.{deeds};
+ghost use Rattle.nob_model_types.specs.Sessions.{is_peer};
 ghost use Rattle.nob_model_history.specs.Histories.{history};
 ghost use Rattle.nob_model_history.specs.Listing.{is_listed};
 ghost use Rattle.nob_model.specs.Next as next;
+ghost use Rattle.nob_model.specs.Tallies as tallies;
 ghost use Rattle.nob_space_state.specs.Dues as dues;
 ghost use Rattle.nob_space.specs.Spaces.{StandsFor};
 ghost use Rattle.nob_host_space.specs.Looks as looks;
@@ -14,8 +16,10 @@ ghost use Rattle.nob_host_space.specs.Looks as looks;
 use crate::bits::bits_of;
 use crate::bytes::copy_out;
 use crate::host::Host;
-use nob_ids::{CallNo, SpaceId};
+use nob_ids::{CallNo, Reason, SpaceId};
+use nob_model::Here;
 use nob_session::Due;
+use nob_space::Tally as SessionTally;
 
 /// What a space could do next, limits, free numbers and want of memory aside.
 #[repr(C)]
@@ -36,6 +40,56 @@ pub struct Work {
     pub withdraw: bool,
     /// The least index of such an object, or 0.
     pub index: u64,
+}
+
+/// What went each way on the present session with a peer, and how it ended.
+#[repr(C)]
+#[derive(Clone, Copy, Debug, PartialEq, Eq)]
+pub struct Tally {
+    /// The session's number, from 1 on: 0 where there is no such peer, and then all is 0.
+    pub session: u32,
+    /// The number of the reason why this end closed, 1 to 6, or 0 where it is open.
+    pub closed: u32,
+    /// How many items were handed to the peer.
+    pub sent: u64,
+    /// How many of the peer's items were acted on here.
+    pub acted: u64,
+}
+
+impl Tally {
+    // That of no session.
+    fn of_none() -> Tally
+        ensures { result ≡ looks.tally_of_none }
+    {
+        Tally {
+            session: 0,
+            closed: 0,
+            sent: 0,
+            acted: 0,
+        }
+    }
+
+    // A session's, in numbers.
+    fn of(tally: SessionTally) -> Tally
+        ensures { result ≡ looks.tally_in_numbers tally }
+    {
+        Tally {
+            session: tally.session,
+            closed: ending_number(tally.closed),
+            sent: tally.sent,
+            acted: tally.acted,
+        }
+    }
+}
+
+// The number of the reason why an end closed, or 0 where it is open.
+fn ending_number(closed: Option<Reason>) -> u32
+    ensures { result ≡ looks.ending_number closed }
+{
+    match closed {
+        Some(reason) => reason.number() as u32,
+        None => 0,
+    }
 }
 
 // A number, or 0 where there is none.
@@ -121,6 +175,37 @@ impl Host {
             return 0;
         };
         due_number(self.space.due(peer))
+    }
+
+    /// What went each way on the session with a peer, and how it ended: all is 0 where the number
+    /// is no peer's.
+    pub fn tally(&self, peer: u16) -> Tally
+        ensures tally { IsSpace peer → is_peer self.now.space.id self.now.space.n peer ≡ true
+            → (L : List Entry) → StandsFor self.now.space L → result ≡ looks.tally_in_numbers
+            (tallies.tally peer (looks.past_of self.now.space L)) }
+        ensures none { is_peer self.now.space.id self.now.space.n peer ≡ false
+            → result ≡ looks.tally_of_none }
+        ensures range { (IsSpace peer → ⊥) → result ≡ looks.tally_of_none }
+    {
+        let Some(peer) = SpaceId::new(peer) else {
+            return Tally::of_none();
+        };
+        let here = Here {
+            space: self.space.id(),
+            n: self.space.n(),
+        };
+        if !here.is_peer(peer) {
+            return Tally::of_none();
+        }
+        Tally::of(self.space.tally(peer))
+    }
+
+    /// How many objects are live.
+    pub fn live(&self) -> u64
+        ensures { (L : List Entry) → StandsFor self.now.space L → result ≡ tallies.live_count
+            self.now.space.id (looks.past_of self.now.space L) }
+    {
+        self.space.live()
     }
 
     /// Copies as many bytes of the answer as there is room for, the first first: how many it has.

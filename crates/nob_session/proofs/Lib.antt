@@ -1,3 +1,4 @@
+pub mod Alike
 pub mod Arrived
 pub mod Given
 pub mod Kept

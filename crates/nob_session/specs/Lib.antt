@@ -10,6 +10,7 @@ pub mod Items
 pub mod Wire
 pub mod Keeping
 pub mod Stands
+pub mod Onward
 pub mod Calls
 pub mod Dues
 pub mod Answers

@@ -18,6 +18,8 @@ use Rattle.nob_model_session.specs.declared.refusal.EndRefusal.TheVariants as en
 use Rattle.nob_session.specs.Calls.{next_of}
 use Rattle.nob_session.specs.Stands as session
 use Rattle.nob_session.specs.Stands.{End, Roomy}
+use Rattle.nob_session.specs.Onward.{AreAlike, StandsOnward}
+use Rattle.nob_session.proofs.Alike.{made_onward, onward_is, step_alike}
 use Rattle.nob_model_types.specs.declared.refusal.Refusal.TheVariants as refusals
 use Rattle.nob_model_types.specs.declared.deed.Deed.{Deed}
 use Rattle.nob_model_types.specs.declared.deed.Deed.TheVariants.{Act}
@@ -199,6 +201,14 @@ module _ {s n p k : ℕ} {limits : Limits} {st : State} {D : List Deed} (stands 
       ∙ ap (λ b. not (closed c D) && (if p == c then (if index == i then b else is_entered s i c D) else is_entered s i c D)) (sym gone)
       ∙ sym (listed_is s n p k (items.Dirty index) D there i c)
 
+-- an end that stands onward does so once its answer is sent and the item is taken
+answered_onward : {me peer : ℕ} {limits : Limits} {old new : End} {L : List EndEntry} (payload : List ℕ) (number : ℕ) → StandsOnward me peer limits old L
+    → ((M : List EndEntry) → session.Stands me peer limits old M → session.Stands me peer limits new (ends.Take ∷ ends.Send payload Note (Ok number) ∷ M)) → StandsOnward me peer limits new (ends.Take ∷ ends.Send payload Note (Ok number) ∷ L)
+answered_onward payload number its call = made_onward (λ M. ends.Take ∷ ends.Send payload Note (Ok number) ∷ M) both its call
+  where
+    both : (M N : List EndEntry) → AreAlike M N → AreAlike (ends.Take ∷ ends.Send payload Note (Ok number) ∷ M) (ends.Take ∷ ends.Send payload Note (Ok number) ∷ N)
+    both M N alike = step_alike (ends.Send payload Note (Ok number) ∷ M) (ends.Send payload Note (Ok number) ∷ N) (step_alike M N alike (ends.Send payload Note (Ok number)) refl) ends.Take refl
+
 module _ {s n p k : ℕ} {limits : Limits} {st : State} {D : List Deed} (stands : Stands s n limits st D) (place : ℕ) (at : place ≡ p - 1) (old new : Roomy) (is : old ≡ get_or st.sessions place old) where
   -- after a Dirty
   pub dirty_stands : (index : ℕ) → IsFront s n p k (items.Dirty index) D → send_refusal p Note st ≡ None → (live : Bool) → live ≡ objects.is_live s index D → (dirty : List Listing) → EntersIf live st.dirty dirty index p → (t : Table) → Unchanged st.table t → SetsKept st.table t (own_ref s index) live
@@ -208,11 +218,11 @@ module _ {s n p k : ℕ} {limits : Limits} {st : State} {D : List Deed} (stands 
       let there : item_at p k D ≡ Some (items.Dirty index) = front_is front limits stands.right in
       let seen : old ≡ get_or st.sessions (p - 1) old = subst (λ q. old ≡ get_or st.sessions q old) at is in
       let end = end_there s n limits st.sessions (history_of s n D) p old stands.ends front.peer seen in
-      let count : old.end.handed ≡ length (handed (calls_at p (history_of s n D))) = ap (λ (e : End). e.handed) end.2 in
-      let after : session.Stands s p limits new.end (calls_at p (history_of s n (Act p k ∷ D))) =
-      subst (λ calls. session.Stands s p limits new.end calls) (sym (calls_here front there))
-      (subst (λ m. session.Stands s p limits new.end (ends.Take ∷ ends.Send (payload_of (dirty_answer (objects.is_live s index D) index)) Note (Ok (m + 1)) ∷ calls_at p (history_of s n D))) count
-      (subst (λ b. session.Stands s p limits new.end (ends.Take ∷ ends.Send (payload_of (dirty_answer b index)) Note (Ok (old.end.handed + 1)) ∷ calls_at p (history_of s n D))) live_is (answer s p limits (calls_at p (history_of s n D)) end.2))) in
+      let count : old.end.handed ≡ length (handed (calls_at p (history_of s n D))) = ap (λ (e : End). e.handed) (onward_is end.2) in
+      let after : StandsOnward s p limits new.end (calls_at p (history_of s n (Act p k ∷ D))) =
+      subst (λ calls. StandsOnward s p limits new.end calls) (sym (calls_here front there))
+      (subst (λ m. StandsOnward s p limits new.end (ends.Take ∷ ends.Send (payload_of (dirty_answer (objects.is_live s index D) index)) Note (Ok (m + 1)) ∷ calls_at p (history_of s n D))) count
+      (subst (λ b. StandsOnward s p limits new.end (ends.Take ∷ ends.Send (payload_of (dirty_answer b index)) Note (Ok (old.end.handed + 1)) ∷ calls_at p (history_of s n D))) live_is (answered_onward (payload_of (dirty_answer live index)) (old.end.handed + 1) end.2 (λ M stood. answer s p limits M stood)))) in
       subst (λ q. Stands s n limits (record { sessions = set st.sessions q new; table = t; dirty = dirty; pins = st.pins; work = st.work; awaited = st.awaited; calls = st.calls; jobs = st.jobs }) (Act p k ∷ D)) (sym at)
       (note_stands s n p k (items.Dirty index) D there refl (λ rep. ap (λ found. turns_after s n p rep found D (turns s n rep D)) there)
       (set st.sessions (p - 1) new) dirty st.pins t stands same (entered_have s st.table t st.pins.bundles st.dirty dirty index p live keeps enters (users_there stands st.table stands.table.kept))

@@ -8,6 +8,8 @@ use Rattle.nob_model_session.specs.Right.{right_front}
 use Rattle.nob_model_session.specs.declared.entry.EndEntry.{EndEntry}
 use Rattle.nob_session.specs.Stands as session
 use Rattle.nob_session.specs.Stands.{Roomy}
+use Rattle.nob_session.proofs.Alike.{told_onward}
+use Rattle.nob_model_session.specs.declared.entry.EndEntry.TheVariants.{Front}
 use Rattle.nob_model_types.specs.declared.answer.Answer.TheVariants as answers
 use Rattle.nob_model_types.specs.declared.event.Event.TheVariants as events
 use Rattle.nob_model_types.specs.declared.refusal.Refusal.TheVariants as refusals
@@ -73,7 +75,7 @@ module _ {s n : ℕ} {limits : Limits} {st : State} {D : List Deed} (stands : St
 
     -- the front of the inbox
     pub front_there : right_front (calls_at p (history_of s n D)) ≡ front
-    front_there = sym (tells s p limits (calls_at p (history_of s n D)) (end_there s n limits st.sessions (history_of s n D) p end stands.ends peer (subst (λ q. end ≡ get_or st.sessions q end) at is)).2)
+    front_there = sym (told_onward (Front front) (end_there s n limits st.sessions (history_of s n D) p end stands.ends peer (subst (λ q. end ≡ get_or st.sessions q end) at is)).2 (λ M stood. tells s p limits M stood))
 
     -- the inbox is empty
     pub act_of_none : front ≡ None → right_act s n p (history_of s n D) ≡ Err refusals.Nothing

@@ -17,7 +17,8 @@ use Rattle.nob_dirty.specs.Sets.{Leaves}
 use Rattle.nob_model_session.specs.declared.entry.EndEntry.{EndEntry}
 use Rattle.nob_model_session.specs.declared.entry.EndEntry.TheVariants as ends
 use Rattle.nob_session.specs.Stands as session
-use Rattle.nob_session.specs.Stands.{End, Roomy}
+use Rattle.nob_session.specs.Stands.{Roomy}
+use Rattle.nob_session.proofs.Alike.{stepped_onward}
 use Rattle.nob_pins.specs.Bundles.{Pinned, bundle_of, is_of, has_bundle, TakesOut}
 use Rattle.nob_pins.specs.Bundles as pins
 use Rattle.nob_model_types.specs.declared.deed.Deed.{Deed}
@@ -29,7 +30,6 @@ use Rattle.nob_model_work.specs.Work.{work}
 use Rattle.nob_model_work.specs.Gifts.{gifts, gifts_of, gifts_of_act}
 use Rattle.nob_model_history.specs.declared.transit.SentItem.{SentItem}
 use Rattle.nob_model_history.specs.Histories.{history_of}
-use Rattle.nob_model_history.specs.Ends.{calls_at}
 use Rattle.nob_model_history.specs.Listing.{is_listed, is_entered, is_entered_after}
 use Rattle.nob_model_history.specs.Transit as transit
 use Rattle.nob_model_history.specs.Transit.{is_pinned, is_settle_of, sent}
@@ -95,7 +95,7 @@ module _ {s n p k : ℕ} {limits : Limits} {st : State} {D : List Deed} (stands 
       subst (λ q. Stands s n limits (record { sessions = set st.sessions q new; table = t; dirty = dirty; pins = st.pins; work = st.work; awaited = st.awaited; calls = st.calls; jobs = st.jobs }) (Act p k ∷ D)) (sym at)
       (note_stands s n p k (items.Clean index) D there refl (λ rep. ap (λ found. turns_after s n p rep found D (turns s n rep D)) there)
       (set st.sessions (p - 1) new) dirty st.pins t stands same (have (users_there stands st.table stands.table.kept))
-      (ends_taken s n p k D limits st.sessions old new none stands.ends front.peer (subst (λ q. old ≡ get_or st.sessions q old) at is) (λ before. take s p limits (calls_at p (history_of s n D)) before))
+      (ends_taken s n p k D limits st.sessions old new none stands.ends front.peer (subst (λ q. old ≡ get_or st.sessions q old) at is) (λ before. stepped_onward ends.Take refl before (λ M stood. take s p limits M stood)))
       (λ i c. leaves i c ∙ ap (λ b. not (index == i && p == c) && b) (stands.listed i c) ∙ unlisted (index == i) (p == c) (closed c D) (is_entered s i c D) ∙ sym (listed_is s n p k (items.Clean index) D there i c))
       (λ f. stands.pins f ∙ ap (λ sent_items. sum_by f (map bundle sent_items)) (sym (bundles_stay s n p k (items.Clean index) D there (λ j. refl) none)))
       (act_is front limits refl))
@@ -157,7 +157,7 @@ module _ {s n p k : ℕ} {limits : Limits} {st : State} {D : List Deed} (stands 
       subst (λ q. Stands s n limits (record { sessions = set st.sessions q new; table = t; dirty = st.dirty; pins = table_of_pins; work = st.work; awaited = st.awaited; calls = st.calls; jobs = st.jobs }) (Act p k ∷ D)) (sym at)
       (note_stands s n p k (items.Settle number) D there refl (λ rep. ap (λ found. turns_after s n p rep found D (turns s n rep D)) there)
       (set st.sessions (p - 1) new) st.dirty table_of_pins t stands same (have (users_there stands st.table stands.table.kept))
-      (ends_taken s n p k D limits st.sessions old new none stands.ends front.peer (subst (λ q. old ≡ get_or st.sessions q old) at is) (λ before. take s p limits (calls_at p (history_of s n D)) before))
+      (ends_taken s n p k D limits st.sessions old new none stands.ends front.peer (subst (λ q. old ≡ get_or st.sessions q old) at is) (λ before. stepped_onward ends.Take refl before (λ M stood. take s p limits M stood)))
       (λ i c. stands.listed i c ∙ ap (λ b. not (closed c D) && b) (listed (p == c) c i) ∙ sym (listed_is s n p k (items.Settle number) D there i c))
       (λ f. sym (sum_left p number f st.pins.bundles table_of_pins.bundles takes_out) ∙ stands.pins (without p number f) ∙ sum_others p number f (transit.bundles (history_of s n D)) ∙ ap (λ sent_items. sum_by f (map bundle sent_items)) (sym (bundles_settled s n p k number D there)))
       (act_is front limits refl))

@@ -12,6 +12,7 @@ use Rattle.nob_model_session.specs.declared.entry.EndEntry.{EndEntry}
 use Rattle.nob_model_session.specs.declared.entry.EndEntry.TheVariants as ends
 use Rattle.nob_session.specs.Stands as session
 use Rattle.nob_session.specs.Stands.{Roomy}
+use Rattle.nob_session.proofs.Alike.{stepped_onward}
 use Rattle.nob_table_rows.specs.declared.standing.Standing.{Standing}
 use Rattle.nob_table_rows.specs.declared.standing.State.{State as TableState}
 use Rattle.nob_table_rows.specs.declared.standing.State.TheVariants as states
@@ -33,11 +34,10 @@ use Rattle.nob_model_work.specs.declared.work.Outstanding.{Outstanding}
 use Rattle.nob_model_work.specs.Work.{work, with_loans, run_after}
 use Rattle.nob_model_work.specs.Gifts.{gifts_of_act}
 use Rattle.nob_model_history.specs.Histories.{history_of}
-use Rattle.nob_model_history.specs.Ends.{calls_at}
 use Rattle.nob_model_history.specs.Holds.{hand, times, lent_in}
 use Rattle.nob_model_history.specs.Listing.{is_entered, is_entered_after, is_listed}
 use Rattle.nob_model_history.specs.Transit as transit
-use Rattle.nob_model_history.proofs.Turning.{after_answer, named_ref}
+use Rattle.nob_model_history.proofs.Turning.{after_answer}
 use Rattle.nob_model_history.proofs.Turning as turning
 use Rattle.nob_model_history.proofs.Unasked.{is_message}
 use Rattle.nob_model_acting.specs.Acting.{act_refusal, fault_of}
@@ -197,7 +197,7 @@ module _ {s n p k : ℕ} {limits : Limits} {st : State} {D : List Deed} (stands 
       let outstanding : W ≡ work s n (Act p k ∷ D) = loans ∙ sym (note_loans s n p k (answer_note granted index) D there (note_is granted index)) in
       subst (λ q. Stands s n limits (record { sessions = set st.sessions q new; table = t; dirty = st.dirty; pins = st.pins; work = W; awaited = awaits; calls = st.calls; jobs = st.jobs }) (Act p k ∷ D)) (sym at)
       record {
-        ends = ends_taken s n p k D limits st.sessions old new none stands.ends front.peer (subst (λ q. old ≡ get_or st.sessions q old) at is) (λ before. take s p limits (calls_at p (history_of s n D)) before);
+        ends = ends_taken s n p k D limits st.sessions old new none stands.ends front.peer (subst (λ q. old ≡ get_or st.sessions q old) at is) (λ before. stepped_onward ends.Take refl before (λ M stood. take s p limits M stood));
         table = subst (λ V. TableShows s n t (history_of s n (Act p k ∷ D)) (λ rep. hand rep D) (λ rep. times rep (lent_in s V))) outstanding shows;
         listed = λ i c. stands.listed i c ∙ sym (answer_listed granted index front there i c);
         pins = λ f. stands.pins f ∙ ap (λ sent_items. sum_by f (map bundle sent_items)) (sym (bundles_stay s n p k (answer_note granted index) D there settles none));

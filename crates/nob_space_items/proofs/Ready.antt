@@ -16,8 +16,9 @@ use Rattle.nob_item.specs.declared.item.Item.TheVariants as items
 use Rattle.nob_model_session.specs.End.{waiting, takes}
 use Rattle.nob_model_session.specs.Right.{first_of, right_front}
 use Rattle.nob_model_session.specs.declared.entry.EndEntry.{EndEntry}
-use Rattle.nob_session.specs.Stands as session
 use Rattle.nob_session.specs.Stands.{Roomy, End, is_open_end}
+use Rattle.nob_session.specs.Onward.{StandsOnward}
+use Rattle.nob_session.proofs.Alike.{made_onward, onward_is}
 use Rattle.nob_table_rows.specs.declared.standing.Standing.{Standing}
 use Rattle.nob_table_rows.specs.declared.standing.State.{State as TableState}
 use Rattle.nob_table_rows.specs.declared.standing.State.TheVariants as states
@@ -25,7 +26,7 @@ use Rattle.nob_table_rows.specs.Standings as standings
 use Rattle.nob_table_rows.specs.Standings.{is_known, is_unknown, pending_standing}
 use Rattle.nob_table_rows.specs.Order.{place_in}
 use Rattle.nob_table.specs.Table as table
-use Rattle.nob_table.specs.Table.{Table, standing, place_of, surrogate_total, is_far}
+use Rattle.nob_table.specs.Table.{Table, standing, surrogate_total, is_far}
 use Rattle.nob_table_rows.proofs.Same.{same_refl}
 use Rattle.nob_model_types.specs.declared.refusal.Refusal.TheVariants as refusals
 use Rattle.nob_model_types.specs.declared.deed.Deed.{Deed}
@@ -71,6 +72,7 @@ use Rattle.nob_space_items.proofs.Bounded.{filter_short, dirties_low, message_le
 use Rattle.nob_space_items.proofs.Lost.{message_new}
 use Rattle.nob_space_items.proofs.Message.{message_of, act_due, act_lost, all_peers}
 use Rattle.nob_space_items.proofs.ReadItems.{item_few}
+use Rattle.nob_space_items.proofs.Sends.{sends_alike}
 
 -- ---- lists
 
@@ -314,9 +316,10 @@ module _ {s n : ℕ} {limits : Limits} {st : State} {D : List Deed} (stands : St
       let before = grows.sessions.ends (p - 1) later.0 later.1 in
       let at : p - 1 + 1 ≡ p = omega (arith, low) in
       let calls : List EndEntry = with_sends (items_to (p - 1 + 1) G) (calls_at (p - 1 + 1) (history_of s n D)) in
-      let its : session.Stands s (p - 1 + 1) limits end.end calls = later.2 s (p - 1 + 1) limits (calls_at (p - 1 + 1) (history_of s n D)) (before.2 ∙ stands.ends.ends (p - 1) before.0 before.1) in
+      let was : StandsOnward s (p - 1 + 1) limits later.0.end (calls_at (p - 1 + 1) (history_of s n D)) = subst (λ (e : End). StandsOnward s (p - 1 + 1) limits e (calls_at (p - 1 + 1) (history_of s n D))) (sym before.2) (stands.ends.ends (p - 1) before.0 before.1) in
+      let its : StandsOnward s (p - 1 + 1) limits end.end calls = made_onward (with_sends (items_to (p - 1 + 1) G)) (sends_alike (items_to (p - 1 + 1) G)) was (λ M stood. later.2 s (p - 1 + 1) limits M stood) in
       let first : right_front calls ≡ Some (k, front.bytes) = sends_front (items_to (p - 1 + 1) G) (calls_at (p - 1 + 1) (history_of s n D)) ∙ ap (λ q. right_front (calls_at q (history_of s n D))) at ∙ front.front in
-      subst (λ (payloads : List (List ℕ)). 0 < length payloads) (sym (ap (λ (e : End). e.waiting) its)) (front_waits (takes calls + 1) k front.bytes (waiting calls) first)
+      subst (λ (payloads : List (List ℕ)). 0 < length payloads) (sym (ap (λ (e : End). e.waiting) (onward_is its))) (front_waits (takes calls + 1) k front.bytes (waiting calls) first)
 
   -- no reference that messages wait for in vain is due to it
   pub new_ready : (w : WaitingList) → w.items ≡ st1.work.waiting → w.awaited ≡ st1.awaited → IsNew w (message_of s n st p k item)

@@ -12,8 +12,9 @@ use Rattle.nob_item.specs.declared.item.Item.{Item}
 use Rattle.nob_item.specs.declared.item.Item.TheVariants as items
 use Rattle.nob_model_session.specs.declared.entry.EndEntry.{EndEntry}
 use Rattle.nob_model_session.specs.declared.entry.EndEntry.TheVariants as ends
-use Rattle.nob_session.specs.Stands as session
 use Rattle.nob_session.specs.Stands.{Roomy}
+use Rattle.nob_session.specs.Onward.{StandsOnward}
+use Rattle.nob_session.proofs.Alike.{made_onward, stepped_onward}
 use Rattle.nob_dirty.specs.Sets.{lists}
 use Rattle.nob_pins.specs.Bundles as pins
 use Rattle.nob_model_types.specs.declared.deed.Deed.{Deed}
@@ -36,12 +37,13 @@ use Rattle.nob_space_state.proofs.Ends.{end_there, ends_changed}
 use Rattle.nob_space_holds.proofs.Counted.{times_both}
 use Rattle.nob_space_holds.proofs.Taking.{shows_same}
 use Rattle.nob_space_items.specs.Fronts.{IsFront}
-use Rattle.nob_space_items.specs.Messages.{wanted_refs, new_copies}
+use Rattle.nob_space_items.specs.Messages.{wanted_refs}
 use Rattle.nob_space_items.specs.Placing.{IsMessage}
 use Rattle.nob_space_items.specs.Receiving.{Receives}
 use Rattle.nob_space_items.proofs.Asks.{asks_show}
 use Rattle.nob_space_items.proofs.Lost.{message_awaited}
 use Rattle.nob_space_items.proofs.Message.{message_of, act_bundles, act_calls, act_due, act_listed, act_lost, act_work}
+use Rattle.nob_space_items.proofs.Sends.{sends_alike}
 
 -- ---- what is lent
 
@@ -105,7 +107,7 @@ module _ {s n : ℕ} {limits : Limits} {st new : State} {D : List Deed} (stands 
     each = receives.sends.each ∙ stands.ends.each;
     ends = λ place end there.
         let sent = receives.sends.ends place end there in
-        sent.2 s (place + 1) limits (calls_at (place + 1) (history_of s n D)) (stands.ends.ends place sent.0 sent.1);
+        made_onward (with_sends (items_to (place + 1) (map dirty_for (wanted_refs s n st (counted_in item))))) (sends_alike (items_to (place + 1) (map dirty_for (wanted_refs s n st (counted_in item))))) (stands.ends.ends place sent.0 sent.1) (λ M stood. sent.2 s (place + 1) limits M stood);
   }
 
   ends_after : EndsStand s n limits new.sessions (history_of s n (Act p k ∷ D))
@@ -115,7 +117,7 @@ module _ {s n : ℕ} {limits : Limits} {st new : State} {D : List Deed} (stands 
       let here : calls_at p (history_of s n (Act p k ∷ D)) ≡ ends.Take ∷ calls_at p between = act_calls stands p k item front message p ∙ ap (λ b. if b then ends.Take ∷ calls_at p between else calls_at p between) (nat_eq_equiv.refl p) in
       subst (λ (sessions : List Roomy). EndsStand s n limits sessions (history_of s n (Act p k ∷ D))) (sym receives.takes.is)
       (ends_changed s n limits receives.sent between (history_of s n (Act p k ∷ D)) p receives.takes.after ends_between there.0
-      (subst (λ (calls : List EndEntry). session.Stands s p limits receives.takes.after.end calls) (sym here) (receives.takes.answer s p limits (calls_at p between) there.2))
+      (subst (λ (calls : List EndEntry). StandsOnward s p limits receives.takes.after.end calls) (sym here) (stepped_onward ends.Take refl there.2 (λ M stood. receives.takes.answer s p limits M stood)))
       (λ q other. sym (act_calls stands p k item front message q ∙ ap (λ b. if b then ends.Take ∷ calls_at q between else calls_at q between) (nat_eq_equiv.symm p q ∙ other))))
 
   table_after : TableStands s n new.table (history_of s n (Act p k ∷ D))

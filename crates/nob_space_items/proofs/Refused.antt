@@ -19,6 +19,7 @@ use Rattle.nob_model_session.specs.declared.refusal.EndRefusal.TheVariants as en
 use Rattle.nob_model_session.specs.declared.entry.EndEntry.{EndEntry}
 use Rattle.nob_model_session.specs.declared.entry.EndEntry.TheVariants as ends
 use Rattle.nob_session.specs.Stands.{End}
+use Rattle.nob_session.proofs.Alike.{onward_is}
 use Rattle.nob_rows.specs.Rows.{IsOnce, reps_of, row_at}
 use Rattle.nob_table_rows.specs.declared.standing.Surrogate.{Surrogate}
 use Rattle.nob_table_rows.specs.Standings as standings
@@ -183,7 +184,7 @@ module _ {s n : ℕ} {limits : Limits} {st : State} {D : List Deed} (stands : St
   unfolding dirty_for
   numbers_at reps rep peer =
       let there = end_of_peer stands rep.owner peer in
-      let before : there.0.end.handed ≡ length (handed (calls_at rep.owner (history_of s n D))) = ap (λ (end : End). end.handed) there.2 in
+      let before : there.0.end.handed ≡ length (handed (calls_at rep.owner (history_of s n D))) = ap (λ (end : End). end.handed) (onward_is there.2) in
       ap (λ count. nat_le (length (handed (calls_at rep.owner (history_of s n D))) + count) last_item) (count_to_owner rep.owner reps)
       ∙ free_count (length (handed (calls_at rep.owner (history_of s n D)))) (owner_count rep.owner reps) (handed_low s rep.owner limits (calls_at rep.owner (history_of s n D)) (calls_law s n limits D stands.right rep.owner))
       ∙ ap (λ k. nat_le (owner_count rep.owner reps) (last_item - k)) (sym before)

@@ -9,20 +9,23 @@ use Rattle.std.proofs.lemmas.Option.{slice_get_read}
 use Rattle.nob_ids.specs.Names.{is_same}
 use Rattle.nob_ids.specs.declared.limits.Limits.{Limits}
 use Rattle.nob_ids.specs.declared.wire_rep.WireRep.{WireRep}
+use Rattle.nob_item.specs.declared.item.Item.{Item}
 use Rattle.nob_item.specs.declared.item.Item.TheVariants as items
 use Rattle.nob_model_session.specs.End.{handed}
 use Rattle.nob_model_session.specs.declared.entry.EndEntry.{EndEntry}
 use Rattle.nob_model_session.specs.declared.entry.EndEntry.TheVariants.{Send}
 use Rattle.nob_model_session.specs.declared.entry.Kind.TheVariants.{Note}
 use Rattle.nob_session.specs.Stands as session
-use Rattle.nob_session.specs.Stands.{Roomy, End, is_open_end}
+use Rattle.nob_session.specs.Stands.{Roomy, End}
+use Rattle.nob_session.specs.Onward.{AreAlike}
+use Rattle.nob_session.proofs.Alike.{step_alike}
 use Rattle.nob_table_rows.proofs.Flat.{get_set_other}
 use Rattle.nob_table_rows.specs.Standings.{is_unknown, pending_standing}
 use Rattle.nob_table_rows.specs.declared.standing.Standing.{Standing}
 use Rattle.nob_table.specs.Table.{Table, SameObjects, Becomes, standing, surrogate_total, is_far}
 use Rattle.nob_model_work.specs.declared.gifts.Gift.{Gift}
 use Rattle.nob_model_work.specs.Gifts.{dirty_for}
-use Rattle.nob_model_history.specs.Ends.{items_to, payload_of, with_sends}
+use Rattle.nob_model_history.specs.Ends.{items_to, kind_of, payload_of, with_sends}
 use Rattle.nob_space_state.proofs.Ends.{set_here}
 use Rattle.nob_space_state.proofs.Rows.{differ}
 use Rattle.nob_space_items.specs.Messages.{owner_count}
@@ -118,6 +121,13 @@ sends_then old mid new rep reps next all = record {
         )
       ] refl;
 }
+
+-- lists of calls that are alike still are once these items are sent
+pub sends_alike : (items : List Item) (L M : List EndEntry) → AreAlike L M → AreAlike (with_sends items L) (with_sends items M)
+sends_alike [] L M alike = alike
+sends_alike (item ∷ items) L M alike =
+    sends_alike items (Send (payload_of item) (kind_of item) (Ok (length (handed L) + 1)) ∷ L) (Send (payload_of item) (kind_of item) (Ok (length (handed M) + 1)) ∷ M)
+    (step_alike L M alike (Send (payload_of item) (kind_of item) (Ok (length (handed L) + 1))) refl)
 
 -- where there are none, nothing is sent
 pub sends_none : (ends : List Roomy) → SendsAll ends ends []

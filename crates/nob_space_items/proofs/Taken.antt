@@ -12,8 +12,9 @@ use Rattle.nob_dirty.specs.Sets.{lists}
 use Rattle.nob_model_session.specs.End.{waiting, takes}
 use Rattle.nob_model_session.specs.Right.{first_of}
 use Rattle.nob_model_session.specs.declared.entry.EndEntry.TheVariants as ends
-use Rattle.nob_session.specs.Stands as session
 use Rattle.nob_session.specs.Stands.{End, Roomy}
+use Rattle.nob_session.specs.Onward.{StandsOnward}
+use Rattle.nob_session.proofs.Alike.{onward_is}
 use Rattle.nob_table_rows.specs.Counts.{is_held}
 use Rattle.nob_table_rows.specs.Standings as standings
 use Rattle.nob_table.specs.Table.{Table, standing, Unchanged}
@@ -78,8 +79,8 @@ module _ {s n p k : ℕ} {item : Item} {D : List Deed} (front : IsFront s n p k 
   act_is limits none = (events.Act p, ap (deed_by (events.Act p)) (act_free none))
 
   -- and at the end with its sender it waits
-  pub front_waits : (limits : Limits) (end : End) → session.Stands s p limits end (calls_at p (history_of s n D)) → 0 < length end.waiting
-  front_waits limits end stands = subst (λ (payloads : List (List ℕ)). 0 < length payloads) (sym (ap (λ (e : End). e.waiting) stands)) (some_waits (takes (calls_at p (history_of s n D)) + 1) (waiting (calls_at p (history_of s n D))) front.front)
+  pub front_waits : (limits : Limits) (end : End) → StandsOnward s p limits end (calls_at p (history_of s n D)) → 0 < length end.waiting
+  front_waits limits end stands = subst (λ (payloads : List (List ℕ)). 0 < length payloads) (sym (ap (λ (e : End). e.waiting) (onward_is stands))) (some_waits (takes (calls_at p (history_of s n D)) + 1) (waiting (calls_at p (history_of s n D))) front.front)
     where
       some_waits : (number : ℕ) (payloads : List (List ℕ)) → first_of number payloads ≡ Some (k, front.bytes) → 0 < length payloads
       some_waits number [] found = absurd (none-some _ found)
@@ -113,12 +114,12 @@ module _ (s n p k : ℕ) (D : List Deed) where
 
   -- the ends once the item is taken
   pub ends_taken : (limits : Limits) (sessions : List Roomy) (old new : Roomy) → gifts s n (Act p k) D (work s n D) ≡ [] → EndsStand s n limits sessions (history_of s n D) → is_peer s n p ≡ true → old ≡ get_or sessions (p - 1) old
-      → (session.Stands s p limits old.end (calls_at p (history_of s n D)) → session.Stands s p limits new.end (ends.Take ∷ calls_at p (history_of s n D)))
+      → (StandsOnward s p limits old.end (calls_at p (history_of s n D)) → StandsOnward s p limits new.end (ends.Take ∷ calls_at p (history_of s n D)))
       → EndsStand s n limits (set sessions (p - 1) new) (history_of s n (Act p k ∷ D))
   ends_taken limits sessions old new none stands peer is take =
       let there = end_there s n limits sessions (history_of s n D) p old stands peer is in
       let here : calls_at p (history_of s n (Act p k ∷ D)) ≡ ends.Take ∷ calls_at p (history_of s n D) = calls_taken p none ∙ rw (nat_eq_equiv.refl p) refl in
-      ends_changed s n limits sessions (history_of s n D) (history_of s n (Act p k ∷ D)) p new stands there.0 (subst (λ calls. session.Stands s p limits new.end calls) (sym here) (take there.2))
+      ends_changed s n limits sessions (history_of s n D) (history_of s n (Act p k ∷ D)) p new stands there.0 (subst (λ calls. StandsOnward s p limits new.end calls) (sym here) (take there.2))
       (λ q other. sym (calls_taken q none ∙ rw (nat_eq_equiv.symm p q, other) refl))
 
 -- ---- a note

@@ -11,7 +11,8 @@ use Rattle.nob_model_session.specs.End.{handed, last_item}
 use Rattle.nob_model_session.specs.declared.entry.EndEntry.TheVariants as ends
 use Rattle.nob_model_session.specs.declared.entry.Kind.TheVariants.{Note}
 use Rattle.nob_session.specs.Calls.{next_of}
-use Rattle.nob_session.specs.Stands as session
+use Rattle.nob_session.specs.Onward.{StandsOnward}
+use Rattle.nob_session.proofs.Alike.{onward_is}
 use Rattle.nob_session.specs.Stands.{End, Roomy, is_open_end}
 use Rattle.nob_table_rows.specs.Counts.{is_held, no_counts}
 use Rattle.nob_table_rows.specs.declared.counts.Counts.{Counts}
@@ -69,7 +70,7 @@ module _ {s n : ℕ} {limits : Limits} {st : State} {D : List Deed} (stands : St
 
   module _ (rep : WireRep) (first : IsFirstSpare st rep) (end : Roomy) (is : end ≡ get_or st.sessions (rep.owner - 1) end) where
     count_there : end.end.handed ≡ length (handed (calls_at rep.owner (history_of s n D)))
-    count_there = ap (λ (e : End). e.handed) (end_there s n limits st.sessions (history_of s n D) rep.owner end stands.ends (asked_there stands rep first).1 is).2
+    count_there = ap (λ (e : End). e.handed) (onward_is (end_there s n limits st.sessions (history_of s n D) rep.owner end stands.ends (asked_there stands rep first).1 is).2)
 
     -- the session with its owner has no number left
     pub clean_full : last_item - end.end.handed ≡ 0 → right_clean s n (history_of s n D) ≡ Err refusals.SeqEnd
@@ -188,7 +189,7 @@ module _ {s n : ℕ} {limits : Limits} {st : State} {D : List Deed} (stands : St
 
     -- after a Clean
     pub clean_stands : (new : Roomy) (u : Table) (payload : List ℕ) (number : ℕ) → IsRightDeed s n limits (Clean rep) D → payload ≡ payload_of (items.Clean rep.index) → number ≡ end.end.handed + 1
-        → (session.Stands s rep.owner limits end.end (calls_at rep.owner (history_of s n D)) → session.Stands s rep.owner limits new.end (ends.Send payload Note (Ok number) ∷ calls_at rep.owner (history_of s n D)))
+        → (StandsOnward s rep.owner limits end.end (calls_at rep.owner (history_of s n D)) → StandsOnward s rep.owner limits new.end (ends.Send payload Note (Ok number) ∷ calls_at rep.owner (history_of s n D)))
         → Becomes st.table u rep unknown → Places st.table u rep None → SetsKept st.table u rep false → RemovalLeaves st.table u
         → Stands s n limits (record { sessions = set st.sessions (rep.owner - 1) new; table = u; dirty = st.dirty; pins = st.pins; work = st.work; awaited = st.awaited; calls = st.calls; jobs = st.jobs }) (Clean rep ∷ D)
     clean_stands new u payload number its spelled next answer becomes places unkept leaves =

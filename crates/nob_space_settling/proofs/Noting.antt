@@ -14,8 +14,9 @@ use Rattle.nob_model_session.specs.End.{handed}
 use Rattle.nob_model_session.specs.declared.entry.EndEntry.{EndEntry}
 use Rattle.nob_model_session.specs.declared.entry.EndEntry.TheVariants as ends
 use Rattle.nob_model_session.specs.declared.entry.Kind.{Kind}
-use Rattle.nob_session.specs.Stands as session
-use Rattle.nob_session.specs.Stands.{End, Roomy, end_of, is_open_end}
+use Rattle.nob_session.specs.Onward.{StandsOnward}
+use Rattle.nob_session.proofs.Alike.{onward_is}
+use Rattle.nob_session.specs.Stands.{End, Roomy, is_open_end}
 use Rattle.nob_table_rows.specs.Counts.{is_held}
 use Rattle.nob_table_rows.specs.Standings as standings
 use Rattle.nob_table.specs.Table.{Table, standing}
@@ -83,15 +84,15 @@ none_pinned D p (item ∷ items) before bare =
     ∙ none_pinned D p items (before ++ next_sent D before (gift_to p item) ∷ []) bare.1
 
 -- an item that is sent is the next of its end
-pub sent_next : (s p : ℕ) (limits : Limits) (old new : End) (L : List EndEntry) (item : Item) (payload : List ℕ) (kind : Kind) (number : ℕ) → session.Stands s p limits old L
-    → (session.Stands s p limits old L → session.Stands s p limits new (ends.Send payload kind (Ok number) ∷ L)) → payload ≡ payload_of item → kind ≡ kind_of item → number ≡ old.handed + 1
-    → session.Stands s p limits new (with_sends (item ∷ []) L)
+pub sent_next : (s p : ℕ) (limits : Limits) (old new : End) (L : List EndEntry) (item : Item) (payload : List ℕ) (kind : Kind) (number : ℕ) → StandsOnward s p limits old L
+    → (StandsOnward s p limits old L → StandsOnward s p limits new (ends.Send payload kind (Ok number) ∷ L)) → payload ≡ payload_of item → kind ≡ kind_of item → number ≡ old.handed + 1
+    → StandsOnward s p limits new (with_sends (item ∷ []) L)
 sent_next s p limits old new L item payload kind number before answer spelled limited next =
-    let count : old.handed ≡ length (handed L) = ap (λ (end : End). end.handed) before in
-    subst (λ (k : ℕ). session.Stands s p limits new (ends.Send (payload_of item) (kind_of item) (Ok (k + 1)) ∷ L)) count
-    (subst (λ (k : ℕ). session.Stands s p limits new (ends.Send (payload_of item) (kind_of item) (Ok k) ∷ L)) next
-    (subst (λ (k : Kind). session.Stands s p limits new (ends.Send (payload_of item) k (Ok number) ∷ L)) limited
-    (subst (λ (bytes : List ℕ). session.Stands s p limits new (ends.Send bytes kind (Ok number) ∷ L)) spelled (answer before))))
+    let count : old.handed ≡ length (handed L) = ap (λ (end : End). end.handed) (onward_is before) in
+    subst (λ (k : ℕ). StandsOnward s p limits new (ends.Send (payload_of item) (kind_of item) (Ok (k + 1)) ∷ L)) count
+    (subst (λ (k : ℕ). StandsOnward s p limits new (ends.Send (payload_of item) (kind_of item) (Ok k) ∷ L)) next
+    (subst (λ (k : Kind). StandsOnward s p limits new (ends.Send (payload_of item) k (Ok number) ∷ L)) limited
+    (subst (λ (bytes : List ℕ). StandsOnward s p limits new (ends.Send bytes kind (Ok number) ∷ L)) spelled (answer before))))
 
 module _ {s n p : ℕ} {items : List Item} {deed : Deed} {D : List Deed} (notes : GivesNotes s n deed D p items) where
   -- the calls on each end
@@ -137,14 +138,14 @@ module _ {s n p : ℕ} {items : List Item} {deed : Deed} {D : List Deed} (notes 
 
   -- the state with another end, table and outstanding work
   pub stands_noted : {limits : Limits} {st : State} (old new : Roomy) (t : Table) (W : Outstanding) → Stands s n limits st D → is_peer s n p ≡ true → old ≡ get_or st.sessions (p - 1) old
-      → (session.Stands s p limits old.end (calls_at p (history_of s n D)) → session.Stands s p limits new.end (with_sends items (calls_at p (history_of s n D))))
+      → (StandsOnward s p limits old.end (calls_at p (history_of s n D)) → StandsOnward s p limits new.end (with_sends items (calls_at p (history_of s n D))))
       → TableStands s n t (history_of s n (deed ∷ D)) → W ≡ work s n (deed ∷ D) → AreAwaited s n st.awaited W.waiting (deed ∷ D) → IsRightDeed s n limits deed D
       → Stands s n limits (record { sessions = set st.sessions (p - 1) new; table = t; dirty = st.dirty; pins = st.pins; work = W; awaited = st.awaited; calls = st.calls; jobs = st.jobs }) (deed ∷ D)
   stands_noted {limits} {st} old new t W stands peer is answer table outstanding awaited its =
       let there = end_there s n limits st.sessions (history_of s n D) p old stands.ends peer is in
       record {
         ends = ends_changed s n limits st.sessions (history_of s n D) (history_of s n (deed ∷ D)) p new stands.ends there.0
-            (subst (λ calls. session.Stands s p limits new.end calls) (sym calls_here) (answer there.2))
+            (subst (λ calls. StandsOnward s p limits new.end calls) (sym calls_here) (answer there.2))
             (λ q other. sym (calls_elsewhere q (nat_eq_equiv.symm p q ∙ other)));
         table = table;
         listed = λ index client. stands.listed index client ∙ sym (notes.listed index client);

@@ -10,6 +10,7 @@ use Rattle.nob_item.specs.declared.item.Item.{Item}
 use Rattle.nob_item.specs.declared.item.Item.TheVariants as items
 use Rattle.nob_model_session.specs.End.{handed, last_item}
 use Rattle.nob_session.specs.Stands.{End, Roomy}
+use Rattle.nob_session.proofs.Alike.{onward_is}
 use Rattle.nob_table_rows.specs.Counts.{is_held}
 use Rattle.nob_table_rows.specs.declared.standing.State.TheVariants as states
 use Rattle.nob_table.specs.Table.{standing}
@@ -106,7 +107,7 @@ module _ {s n : ℕ} {limits : Limits} {st : State} {D : List Deed} (stands : St
 
     module _ (end : Roomy) (is : end ≡ get_or st.sessions (m.from - 1) end) where
       count_there : end.end.handed ≡ length (handed (calls_at m.from (history_of s n D)))
-      count_there = ap (λ (e : End). e.handed) (end_there s n limits st.sessions (history_of s n D) m.from end stands.ends message_sound.peer is).2
+      count_there = ap (λ (e : End). e.handed) (onward_is (end_there s n limits st.sessions (history_of s n D) m.from end stands.ends message_sound.peer is).2)
 
       settle_by : (b : Bool) → nat_le (length (handed (calls_at m.from (history_of s n D))) + given_count (lost_call m.item (has_lost s n st m))) last_item ≡ b → right_settle s n (history_of s n D) ≡ (if b then Ok (answers.Settled m.from m.number) else Err refusals.SeqEnd)
       unfolding right_settle settle_of

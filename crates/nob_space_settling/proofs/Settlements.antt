@@ -16,6 +16,8 @@ use Rattle.nob_model_session.specs.declared.entry.EndEntry.{EndEntry}
 use Rattle.nob_model_session.specs.declared.entry.EndEntry.TheVariants.{Send}
 use Rattle.nob_model_session.specs.declared.entry.Kind.TheVariants.{Note}
 use Rattle.nob_session.specs.Stands as session
+use Rattle.nob_session.specs.Onward.{AreAlike, StandsOnward}
+use Rattle.nob_session.proofs.Alike.{onward_is, made_onward, step_alike}
 use Rattle.nob_session.specs.Stands.{End, Roomy, is_open_end}
 use Rattle.nob_table.specs.Table.{Table, standing}
 use Rattle.nob_model_types.specs.declared.deed.Deed.{Deed}
@@ -73,6 +75,17 @@ settle_gives s n p k (items.Dirty index) lost peer = rw peer refl
 settle_gives s n p k (items.DirtyOk index) lost peer = rw peer refl
 settle_gives s n p k (items.DirtyNo index) lost peer = rw peer refl
 settle_gives s n p k (items.Clean index) lost peer = rw peer refl
+
+-- lists that are alike still are with the notes of a settling
+notes_alike : (h : ℕ) (settle : List ℕ) (reply : Option (List ℕ)) (M N : List EndEntry) → AreAlike M N → AreAlike (with_note (h + 2) reply (Send settle Note (Ok (h + 1)) ∷ M)) (with_note (h + 2) reply (Send settle Note (Ok (h + 1)) ∷ N))
+notes_alike h settle None M N alike = step_alike M N alike (Send settle Note (Ok (h + 1))) refl
+notes_alike h settle (Some payload) M N alike = step_alike (Send settle Note (Ok (h + 1)) ∷ M) (Send settle Note (Ok (h + 1)) ∷ N) (step_alike M N alike (Send settle Note (Ok (h + 1))) refl) (Send payload Note (Ok (h + 2))) refl
+
+-- so the end stands onward with them
+pub notes_onward : {me peer : ℕ} {limits : Limits} {old new : End} {L : List EndEntry} (h : ℕ) (settle : List ℕ) (reply : Option (List ℕ)) → StandsOnward me peer limits old L
+    → ((M : List EndEntry) → session.Stands me peer limits old M → session.Stands me peer limits new (with_note (h + 2) reply (Send settle Note (Ok (h + 1)) ∷ M)))
+    → StandsOnward me peer limits new (with_note (h + 2) reply (Send settle Note (Ok (h + 1)) ∷ L))
+notes_onward h settle reply its call = made_onward (λ M. with_note (h + 2) reply (Send settle Note (Ok (h + 1)) ∷ M)) (notes_alike h settle reply) its call
 
 -- the notes are the next items
 notes_sent : (k h : ℕ) (call : Option ℕ) (settle : List ℕ) (reply : Option (List ℕ)) (calls : List EndEntry) → settle ≡ payload_of (items.Settle k) → reply ≡ option_map (λ c. payload_of (reply_to_lost c)) call → h ≡ length (handed calls)
@@ -185,13 +198,13 @@ module _ {s n : ℕ} {limits : Limits} {st : State} {D : List Deed} (stands : St
 
     -- after a Settle
     pub settle_stands : (new : Roomy) (u : Table) (W : Outstanding) (settle : List ℕ) (reply : Option (List ℕ)) → settle ≡ payload_of (items.Settle m.number) → reply ≡ option_map (λ c. payload_of (reply_to_lost c)) (lost_call m.item (has_lost s n st m))
-        → (session.Stands s m.from limits end.end (calls_at m.from (history_of s n D)) → session.Stands s m.from limits new.end (with_note (end.end.handed + 2) reply (Send settle Note (Ok (end.end.handed + 1)) ∷ calls_at m.from (history_of s n D))))
+        → (StandsOnward s m.from limits end.end (calls_at m.from (history_of s n D)) → StandsOnward s m.from limits new.end (with_note (end.end.handed + 2) reply (Send settle Note (Ok (end.end.handed + 1)) ∷ calls_at m.from (history_of s n D))))
         → GivesBack st.table u (loans_ended s m m.item (has_lost s n st m))
         → W ≡ after_settlement m m.item (has_lost s n st m) (record { waiting = without_first (is_settleable st) st.work.waiting; ready = st.work.ready; running = st.work.running; replies = st.work.replies; calls = st.work.calls })
         → Stands s n limits (record { sessions = set st.sessions (m.from - 1) new; table = u; dirty = st.dirty; pins = st.pins; work = W; awaited = st.awaited; calls = st.calls; jobs = st.jobs }) (Settle m.from m.number ∷ D)
     settle_stands new u W settle reply spelled replied answer back put =
         stands_noted settle_notes end new u W stands peer is
-        (λ before. subst (λ calls. session.Stands s m.from limits new.end calls) (notes_sent m.number end.end.handed (lost_call m.item (has_lost s n st m)) settle reply (calls_at m.from (history_of s n D)) spelled replied (ap (λ (e : End). e.handed) before)) (answer before))
+        (λ before. subst (λ calls. StandsOnward s m.from limits new.end calls) (notes_sent m.number end.end.handed (lost_call m.item (has_lost s n st m)) settle reply (calls_at m.from (history_of s n D)) spelled replied (ap (λ (e : End). e.handed) (onward_is before))) (answer before))
         (settle_shows u back)
         (put
         ∙ ap (λ ws. after_settlement m m.item (has_lost s n st m) (record { waiting = ws; ready = st.work.ready; running = st.work.running; replies = st.work.replies; calls = st.work.calls })) waiting_left

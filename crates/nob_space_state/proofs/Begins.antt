@@ -5,6 +5,7 @@ use Prim.Native.Nat.{zero, suc}
 use Rattle.nob_ids.specs.declared.limits.Limits.{Limits}
 use Rattle.nob_session.specs.Stands as session
 use Rattle.nob_session.specs.Stands.{Roomy}
+use Rattle.nob_session.proofs.Alike.{onward_by}
 use Rattle.std.proofs.lemmas.List.{nil_from_length}
 use Rattle.std.proofs.lemmas.Bool.Decides.{nat_tests}
 use Rattle.std.specs.List.{sum_by, IsDistinct}
@@ -53,7 +54,7 @@ pub begins_stands : (s n : ℕ) (limits : Limits) (st : State) → length st.ses
 begins_stands s n limits st each opened me exported dirties surrogates nothing unkept listed pins work calls jobs = record {
   ends = record {
     each = each;
-    ends = λ place end there. subst (λ w. session.Stands s w limits end.end []) (omega arith) (opened_at s 1 limits st.sessions place end opened there);
+    ends = λ place end there. onward_by (subst (λ w. session.Stands s w limits end.end []) (omega arith) (opened_at s 1 limits st.sessions place end opened there));
   };
   table = record {
     me = me;

@@ -31,9 +31,10 @@ use Rattle.nob_model_session.specs.declared.entry.EndEntry.TheVariants as ends
 use Rattle.nob_model_session.specs.declared.refusal.EndRefusal.{EndRefusal}
 use Rattle.nob_model_session.specs.declared.entry.Kind.{Kind}
 use Rattle.nob_model_session.specs.declared.entry.Kind.TheVariants.{Limited}
-use Rattle.nob_session.specs.Stands as session
+use Rattle.nob_session.specs.Onward.{StandsOnward}
+use Rattle.nob_session.proofs.Alike.{onward_is}
 use Rattle.nob_session.specs.Calls.{next_of}
-use Rattle.nob_session.specs.Stands.{End, Roomy, end_of}
+use Rattle.nob_session.specs.Stands.{End, Roomy}
 use Rattle.nob_table.specs.Table.{Table}
 use Rattle.nob_pins.specs.Bundles as pins
 use Rattle.nob_model_types.specs.declared.answer.Answer.TheVariants as answers
@@ -130,7 +131,7 @@ module _ {s n : ℕ} {limits : Limits} {st : State} {D : List Deed} (stands : St
   value_there value = λ i. refuse_if (is_faulty (pickle_of value)) refusals.TooBig or_else refs_there (refs_in value) i
 
   -- the end with a peer
-  pub end_of_peer : (p : ℕ) → is_peer s n p ≡ true → (end : Roomy) × (end_with st.sessions p ≡ Some end) × session.Stands s p limits end.end (calls_at p (history_of s n D))
+  pub end_of_peer : (p : ℕ) → is_peer s n p ≡ true → (end : Roomy) × (end_with st.sessions p ≡ Some end) × StandsOnward s p limits end.end (calls_at p (history_of s n D))
   end_of_peer p peer =
       let some : p == 0 ≡ false = grind (arith, nat_tests, peer) in
       let low : 1 ≤ p = grind (arith, nat_tests, peer) in
@@ -138,7 +139,7 @@ module _ {s n : ℕ} {limits : Limits} {st : State} {D : List Deed} (stands : St
       elim (slice_get_cases st.sessions (p - 1)).1 [
         | inl found ↦
             let at : p - 1 + 1 ≡ p = omega (arith, low) in
-            (found.0, rw some found.2, subst (λ q. session.Stands s q limits found.0.end (calls_at q (history_of s n D))) at (stands.ends.ends (p - 1) found.0 found.2))
+            (found.0, rw some found.2, subst (λ q. StandsOnward s q limits found.0.end (calls_at q (history_of s n D))) at (stands.ends.ends (p - 1) found.0 found.2))
         | inr past ↦ absurd (let far : n ≤ p - 1 = subst (λ k. k ≤ p - 1) stands.ends.each past.0 in omega (arith, far, low, high))
       ]
 
@@ -146,7 +147,7 @@ module _ {s n : ℕ} {limits : Limits} {st : State} {D : List Deed} (stands : St
   pub send_there : (p : ℕ) (kind : Kind) → is_peer s n p ≡ true → send_refused p kind (history_of s n D) ≡ send_refusal p kind st
   send_there p kind peer =
       let there = end_of_peer p peer in
-      sym (ap (next_refusal kind) there.1 ∙ ap (λ (end : End). next_refusal kind (Some (record { end = end; room = there.0.room }))) there.2)
+      sym (ap (next_refusal kind) there.1 ∙ ap (λ (end : End). next_refusal kind (Some (record { end = end; room = there.0.room }))) (onward_is there.2))
 
   -- what is right for a Call is what the state tells
   pub call_right : (target : WireRep) (value : Value) → right_call s n target value (history_of s n D) ≡ unless (call_refusal s n st target value) (answers.Called (st.calls + 1))
@@ -309,19 +310,19 @@ module _ {s n : ℕ} {limits : Limits} {st : State} {D : List Deed} (stands : St
   -- one item is sent: its deed is done
   pub stands_sent : {deed : Deed} {item : Item} (payload : List ℕ) (kind : Kind) (number : ℕ) (W : Outstanding) (t : Table) (made : ℕ) → HandsOne s n deed D p item → closed p D ≡ false
       → payload ≡ payload_of item → kind ≡ kind_of item → number ≡ old.end.handed + 1
-      → (session.Stands s p limits old.end (calls_at p (history_of s n D)) → session.Stands s p limits new.end (ends.Send payload kind (Ok number) ∷ calls_at p (history_of s n D)))
+      → (StandsOnward s p limits old.end (calls_at p (history_of s n D)) → StandsOnward s p limits new.end (ends.Send payload kind (Ok number) ∷ calls_at p (history_of s n D)))
       → AddsPins st.pins.bundles table_of_pins.bundles p (old.end.handed + 1) (counted_in item)
       → TableStands s n t (history_of s n (deed ∷ D)) → W ≡ work s n (deed ∷ D) → W.waiting ≡ st.work.waiting → made ≡ calls_made (deed ∷ D) → IsRightDeed s n limits deed D
       → Stands s n limits (record { sessions = set st.sessions (p - 1) new; table = t; dirty = st.dirty; pins = table_of_pins; work = W; awaited = st.awaited; calls = made; jobs = st.jobs }) (deed ∷ D)
   stands_sent {deed} {item} payload kind number W t made hands still spelled limited next answer adds table outstanding waits calls its =
       let there = end_there s n limits st.sessions (history_of s n D) p old stands.ends peer is in
-      let count : old.end.handed ≡ length (handed (calls_at p (history_of s n D))) = ap (λ (end : End). end.handed) there.2 in
-      let after : session.Stands s p limits new.end (calls_at p (history_of s n (deed ∷ D))) =
-      subst (λ calls. session.Stands s p limits new.end calls) (sym (calls_here hands))
-      (subst (λ k. session.Stands s p limits new.end (ends.Send (payload_of item) (kind_of item) (Ok (k + 1)) ∷ calls_at p (history_of s n D))) count
-      (subst (λ k. session.Stands s p limits new.end (ends.Send (payload_of item) (kind_of item) (Ok k) ∷ calls_at p (history_of s n D))) next
-      (subst (λ k. session.Stands s p limits new.end (ends.Send (payload_of item) k (Ok number) ∷ calls_at p (history_of s n D))) limited
-      (subst (λ bytes. session.Stands s p limits new.end (ends.Send bytes kind (Ok number) ∷ calls_at p (history_of s n D))) spelled (answer there.2))))) in
+      let count : old.end.handed ≡ length (handed (calls_at p (history_of s n D))) = ap (λ (end : End). end.handed) (onward_is there.2) in
+      let after : StandsOnward s p limits new.end (calls_at p (history_of s n (deed ∷ D))) =
+      subst (λ calls. StandsOnward s p limits new.end calls) (sym (calls_here hands))
+      (subst (λ k. StandsOnward s p limits new.end (ends.Send (payload_of item) (kind_of item) (Ok (k + 1)) ∷ calls_at p (history_of s n D))) count
+      (subst (λ k. StandsOnward s p limits new.end (ends.Send (payload_of item) (kind_of item) (Ok k) ∷ calls_at p (history_of s n D))) next
+      (subst (λ k. StandsOnward s p limits new.end (ends.Send (payload_of item) k (Ok number) ∷ calls_at p (history_of s n D))) limited
+      (subst (λ bytes. StandsOnward s p limits new.end (ends.Send bytes kind (Ok number) ∷ calls_at p (history_of s n D))) spelled (answer there.2))))) in
       stands_handed hands (set st.sessions (p - 1) new) t table_of_pins W made stands
       (ends_changed s n limits st.sessions (history_of s n D) (history_of s n (deed ∷ D)) p new stands.ends there.0 after (λ q other. sym (calls_elsewhere hands q (nat_eq_equiv.symm p q ∙ other))))
       table
@@ -338,7 +339,7 @@ calls_below {s} {n} {limits} {st} {D} stands number next =
 pub call_stands : {s n : ℕ} {limits : Limits} {st : State} {D : List Deed} → Stands s n limits st D → (target : WireRep) (method : ℕ) (value : Value) (old new : Roomy) (table_of_pins : pins.Table) → ((call : ℕ) → call ≡ st.calls + 1 → IsRightDeed s n limits (Call target method value call) D) → IsJudged s n st target value → old ≡ get_or st.sessions (target.owner - 1) old
     → (payload : List ℕ) (number call : ℕ) (reps : List WireRep) (calls : List OwnCall)
     → call ≡ st.calls + 1 → bytes_of (items.Call call target.index method value) ≡ Ok payload → number ≡ old.end.handed + 1
-    → (session.Stands s target.owner limits old.end (calls_at target.owner (history_of s n D)) → session.Stands s target.owner limits new.end (ends.Send payload Limited (Ok number) ∷ calls_at target.owner (history_of s n D)))
+    → (StandsOnward s target.owner limits old.end (calls_at target.owner (history_of s n D)) → StandsOnward s target.owner limits new.end (ends.Send payload Limited (Ok number) ∷ calls_at target.owner (history_of s n D)))
     → reps ≡ filter is_counted (refs_in value) → AddsPins st.pins.bundles table_of_pins.bundles target.owner (old.end.handed + 1) reps
     → calls ≡ st.work.calls ++ record { call = call; to = target.owner; stage = stages.Sent } ∷ []
     → Stands s n limits (record { sessions = set st.sessions (target.owner - 1) new; table = st.table; dirty = st.dirty; pins = table_of_pins; work = record { waiting = st.work.waiting; ready = st.work.ready; running = st.work.running; replies = st.work.replies; calls = calls }; awaited = st.awaited; calls = st.calls + 1; jobs = st.jobs }) (Call target method value call ∷ D)

@@ -15,6 +15,8 @@ use Rattle.nob_dirty.specs.declared.sets.Listing.{Listing}
 use Rattle.nob_dirty.specs.Sets.{lists, LeavesAll}
 use Rattle.nob_pins.specs.Bundles.{Pinned, of_others, TakesOutAll}
 use Rattle.nob_session.specs.Stands as session
+use Rattle.nob_session.specs.Onward.{StandsOnward}
+use Rattle.nob_session.proofs.Alike.{onward_is}
 use Rattle.nob_session.specs.Stands.{End, Roomy}
 use Rattle.nob_model_session.specs.declared.entry.EndEntry.{EndEntry}
 use Rattle.nob_model_session.specs.declared.entry.Ending.{Ending}
@@ -306,14 +308,14 @@ module _ {s n : ℕ} {limits : Limits} {st : State} {D : List Deed} (stands : St
 
   -- after the closing of the session with p
   pub closing_stands : (reason : Reason) (cause : Cause) (old end : Roomy) (after : State) → is_peer s n p ≡ true → IsRightDeed s n limits (Closing p reason cause) D → old ≡ get_or st.sessions (p - 1) old
-      → session.Stands s p limits end.end (call_of_closing p reason cause ∷ calls_at p (history_of s n D)) → ClosesDown s p (with_sessions (set st.sessions (p - 1) end) st) after → Stands s n limits after (Closing p reason cause ∷ D)
+      → StandsOnward s p limits end.end (call_of_closing p reason cause ∷ calls_at p (history_of s n D)) → ClosesDown s p (with_sessions (set st.sessions (p - 1) end) st) after → Stands s n limits after (Closing p reason cause ∷ D)
   closing_stands reason cause old end after peer its is stands_closed down =
       let there = end_there s n limits st.sessions (history_of s n D) p old stands.ends peer is in
       let here : calls_at p (history_of s n (Closing p reason cause ∷ D)) ≡ call_of_closing p reason cause ∷ calls_at p (history_of s n D) = closing_calls s n p p reason cause D ∙ rw (nat_eq_equiv.refl p) refl in
       record {
         ends = subst (λ (sessions : List Roomy). EndsStand s n limits sessions (history_of s n (Closing p reason cause ∷ D))) (sym down.sessions)
             (ends_changed s n limits st.sessions (history_of s n D) (history_of s n (Closing p reason cause ∷ D)) p end stands.ends there.0
-            (subst (λ calls. session.Stands s p limits end.end calls) (sym here) stands_closed)
+            (subst (λ calls. StandsOnward s p limits end.end calls) (sym here) stands_closed)
             (λ q other. sym (closing_calls s n p q reason cause D ∙ rw (nat_eq_equiv.symm p q, other) refl)));
         table = closing_table reason cause after peer down.table down.listed (closing_pins s n p reason cause D st.pins.bundles after.pins.bundles stands.pins down.pins);
         listed = closing_listed reason cause after.dirty down.listed;
@@ -345,15 +347,15 @@ open_end sessions p end low there still =
 -- after a call that closed the end with p
 pub ended_stands : {s n : ℕ} {limits : Limits} {st : State} {D : List Deed} → Stands s n limits st D → (p : ℕ) (reason : Reason) (cause : Cause) (entry : Ending → EndEntry) → call_of_closing p reason cause ≡ entry (record { peer = p; reason = reason })
     → (old new : Roomy) (after : State) (ending : Ending) → is_peer s n p ≡ true → old ≡ get_or st.sessions (p - 1) old → ending.reason ≡ reason → ending.peer ≡ old.end.peer
-    → (session.Stands s p limits old.end (calls_at p (history_of s n D)) → session.Stands s p limits new.end (entry ending ∷ calls_at p (history_of s n D)))
+    → (StandsOnward s p limits old.end (calls_at p (history_of s n D)) → StandsOnward s p limits new.end (entry ending ∷ calls_at p (history_of s n D)))
     → ClosesDown s ending.peer (with_sessions (set st.sessions (p - 1) new) st) after → IsRightDeed s n limits (Closing p reason cause) D → Stands s n limits after (Closing p reason cause ∷ D)
 ended_stands {s} {n} {limits} {st} {D} stands p reason cause entry call_is old new after ending peer is reason_is peer_is answer down its =
     let there = end_there s n limits st.sessions (history_of s n D) p old stands.ends peer is in
-    let with_p : ending.peer ≡ p = peer_is ∙ ap (λ (e : End). e.peer) there.2 in
+    let with_p : ending.peer ≡ p = peer_is ∙ ap (λ (e : End). e.peer) (onward_is there.2) in
     let one : ending ≡ record { peer = p; reason = reason } = λ i. record { peer = with_p i; reason = reason_is i } in
     closing_stands stands p reason cause old new after peer its is
-    (subst (λ (call : EndEntry). session.Stands s p limits new.end (call ∷ calls_at p (history_of s n D))) (sym call_is)
-    (subst (λ (e : Ending). session.Stands s p limits new.end (entry e ∷ calls_at p (history_of s n D))) one (answer there.2)))
+    (subst (λ (call : EndEntry). StandsOnward s p limits new.end (call ∷ calls_at p (history_of s n D))) (sym call_is)
+    (subst (λ (e : Ending). StandsOnward s p limits new.end (entry e ∷ calls_at p (history_of s n D))) one (answer there.2)))
     (subst (λ (q : ℕ). ClosesDown s q (with_sessions (set st.sessions (p - 1) new) st) after) with_p down)
 
 -- what is right for a Close

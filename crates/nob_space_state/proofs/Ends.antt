@@ -21,8 +21,8 @@ use Rattle.nob_space_state.proofs.Rows.{differ}
 use Rattle.nob_ids.specs.declared.limits.Limits.{Limits}
 use Rattle.nob_ids.specs.declared.wire_rep.WireRep.{WireRep}
 use Rattle.nob_frame.specs.declared.frame.Frame.{Frame}
-use Rattle.nob_session.specs.Stands as session
-use Rattle.nob_session.specs.Stands.{Roomy, end_of}
+use Rattle.nob_session.specs.Onward.{StandsOnward}
+use Rattle.nob_session.specs.Stands.{End, Roomy}
 use Rattle.nob_table_rows.specs.Counts.{is_held}
 use Rattle.nob_table.specs.Table.{standing}
 use Rattle.nob_model_types.specs.declared.deed.Deed.{Deed}
@@ -56,18 +56,18 @@ set_here (x ∷ xs) (suc at) y z there = set_here xs at y z there
 
 -- the ends with one changed
 pub ends_changed : (s n : ℕ) (limits : Limits) (ends : List Roomy) (h h' : History) (p : ℕ) (new : Roomy) → EndsStand s n limits ends h → 1 ≤ p
-    → session.Stands s p limits new.end (calls_at p h') → ((q : ℕ) → q == p ≡ false → calls_at q h ≡ calls_at q h') → EndsStand s n limits (set ends (p - 1) new) h'
+    → StandsOnward s p limits new.end (calls_at p h') → ((q : ℕ) → q == p ≡ false → calls_at q h ≡ calls_at q h') → EndsStand s n limits (set ends (p - 1) new) h'
 ends_changed s n limits ends h h' p new stands low here elsewhere = record {
   each = length-set ends (p - 1) new ∙ stands.each;
-  ends = λ place end there. elim (place == p - 1) as (λ b. place == p - 1 ≡ b → session.Stands s (place + 1) limits end.end (calls_at (place + 1) h')) [
+  ends = λ place end there. elim (place == p - 1) as (λ b. place == p - 1 ≡ b → StandsOnward s (place + 1) limits end.end (calls_at (place + 1) h')) [
     | true ↦ λ same.
         let at : place ≡ p - 1 = (Decides-eqb place (p - 1)).0 same in
         let is : end ≡ new = set_here ends (p - 1) new end (subst (λ k. slice_get (set ends (p - 1) new) k ≡ Some end) at there) in
-        subst (λ q. session.Stands s q limits end.end (calls_at q h')) (omega (arith, at, low)) (subst (λ (e : Roomy). session.Stands s p limits e.end (calls_at p h')) (sym is) here)
+        subst (λ q. StandsOnward s q limits end.end (calls_at q h')) (omega (arith, at, low)) (subst (λ (e : Roomy). StandsOnward s p limits e.end (calls_at p h')) (sym is) here)
     | false ↦ λ differs.
         let apart : place ≡ p - 1 → ⊥ = λ same. differ ((Decides-eqb place (p - 1)).1 same) differs in
         let before : slice_get ends place ≡ Some end = sym (get_set_other ends (p - 1) place new apart) ∙ there in
-        subst (λ calls. session.Stands s (place + 1) limits end.end calls) (elsewhere (place + 1) (grind (arith, nat_tests, differs, low))) (stands.ends place end before)
+        subst (λ calls. StandsOnward s (place + 1) limits end.end calls) (elsewhere (place + 1) (grind (arith, nat_tests, differs, low))) (stands.ends place end before)
   ] refl;
 }
 
@@ -76,7 +76,7 @@ pub ends_kept : (s n : ℕ) (limits : Limits) (ends : List Roomy) (h : History) 
     → slice_get ends (p - 1) ≡ Some old → new.end ≡ old.end → EndsStand s n limits (set ends (p - 1) new) h
 ends_kept s n limits ends h p old new stands low there same =
     let at : p - 1 + 1 ≡ p = omega (arith, low) in
-    ends_changed s n limits ends h h p new stands low (same ∙ subst (λ q. session.Stands s q limits old.end (calls_at q h)) at (stands.ends (p - 1) old there)) (λ q other. refl)
+    ends_changed s n limits ends h h p new stands low (subst (λ (e : End). StandsOnward s p limits e (calls_at p h)) (sym same) (subst (λ q. StandsOnward s q limits old.end (calls_at q h)) at (stands.ends (p - 1) old there))) (λ q other. refl)
 
 -- what a deed leaves that is nothing but a call on one end
 pub record IsStill (s n : ℕ) (deed : Deed) (D : List Deed) : Type 0 where
@@ -191,13 +191,13 @@ module _ {s n : ℕ} {limits : Limits} {st : State} {deed : Deed} {D : List Deed
 
 -- the end with a peer stands in its place
 pub end_there : (s n : ℕ) (limits : Limits) (ends : List Roomy) (h : History) (p : ℕ) (end : Roomy) → EndsStand s n limits ends h → is_peer s n p ≡ true → end ≡ get_or ends (p - 1) end
-    → (1 ≤ p) × (slice_get ends (p - 1) ≡ Some end) × session.Stands s p limits end.end (calls_at p h)
+    → (1 ≤ p) × (slice_get ends (p - 1) ≡ Some end) × StandsOnward s p limits end.end (calls_at p h)
 end_there s n limits ends h p end stands peer is =
     let low : 1 ≤ p = grind (arith, nat_tests, peer) in
     let high : p ≤ n = grind (arith, nat_tests, peer) in
     let there : slice_get ends (p - 1) ≡ Some end = slice_get_read ends n (p - 1) end (sym stands.each) (omega (arith, low, high)) is in
     let at : p - 1 + 1 ≡ p = omega (arith, low) in
-    (low, there, subst (λ q. session.Stands s q limits end.end (calls_at q h)) at (stands.ends (p - 1) end there))
+    (low, there, subst (λ q. StandsOnward s q limits end.end (calls_at q h)) at (stands.ends (p - 1) end there))
 
 -- the end that was read at a peer's place
 pub at_peer : (ends : List Roomy) (k p : ℕ) (end : Roomy) → k ≡ p - 1 → end ≡ get_or ends k end → end ≡ get_or ends (p - 1) end
@@ -230,12 +230,12 @@ module _ {s n : ℕ} {limits : Limits} {st : State} {D : List Deed} (stands : St
       }
 
   -- after one call on that end
-  pub called_stands : (deed : Deed) (entry : EndEntry) → IsStill s n deed D → IsOneCall s n p deed entry D → IsRightDeed s n limits deed D → session.Stands s p limits new.end (entry ∷ calls_at p (history_of s n D)) → Stands s n limits (with_sessions (set st.sessions (p - 1) new) st) (deed ∷ D)
+  pub called_stands : (deed : Deed) (entry : EndEntry) → IsStill s n deed D → IsOneCall s n p deed entry D → IsRightDeed s n limits deed D → StandsOnward s p limits new.end (entry ∷ calls_at p (history_of s n D)) → Stands s n limits (with_sessions (set st.sessions (p - 1) new) st) (deed ∷ D)
   called_stands deed entry still calls its after =
       let there = end_there s n limits st.sessions (history_of s n D) p old stands.ends peer is in
       let here : calls_at p (history_of s n (deed ∷ D)) ≡ entry ∷ calls_at p (history_of s n D) = calls p ∙ rw (nat_eq_equiv.refl p) refl in
       stands_still still stands (set st.sessions (p - 1) new)
       (ends_changed s n limits st.sessions (history_of s n D) (history_of s n (deed ∷ D)) p new stands.ends there.0
-      (subst (λ calls. session.Stands s p limits new.end calls) (sym here) after)
+      (subst (λ calls. StandsOnward s p limits new.end calls) (sym here) after)
       (λ q other. sym (calls q ∙ rw (nat_eq_equiv.symm p q, other) refl)))
       its

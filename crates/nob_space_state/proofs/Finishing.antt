@@ -16,7 +16,7 @@ use Rattle.nob_item.specs.declared.item.Item.{Item}
 use Rattle.nob_item.specs.declared.item.Item.TheVariants as items
 use Rattle.nob_model_session.specs.declared.entry.Kind.TheVariants.{Limited}
 use Rattle.nob_model_session.specs.declared.entry.EndEntry.TheVariants as ends
-use Rattle.nob_session.specs.Stands as session
+use Rattle.nob_session.specs.Onward.{StandsOnward}
 use Rattle.nob_session.specs.Stands.{Roomy}
 use Rattle.nob_pins.specs.Bundles as pins
 use Rattle.nob_table.specs.Table.{Table, standing}
@@ -297,7 +297,7 @@ pub finish_stands : {s n : ℕ} {limits : Limits} {st : State} {D : List Deed} �
     → (old new : Roomy) (table_of_pins : pins.Table) → old ≡ get_or st.sessions (run.message.from - 1) old
     → (payload : List ℕ) (status number : ℕ) (value : Value) (reps : List WireRep) (u : Table) (runs : List Run)
     → status ≡ status_of outcome → value ≡ value_of outcome → bytes_of (items.Reply call status value) ≡ Ok payload → number ≡ old.end.handed + 1
-    → (session.Stands s run.message.from limits old.end (calls_at run.message.from (history_of s n D)) → session.Stands s run.message.from limits new.end (ends.Send payload Limited (Ok number) ∷ calls_at run.message.from (history_of s n D)))
+    → (StandsOnward s run.message.from limits old.end (calls_at run.message.from (history_of s n D)) → StandsOnward s run.message.from limits new.end (ends.Send payload Limited (Ok number) ∷ calls_at run.message.from (history_of s n D)))
     → reps ≡ filter is_counted (refs_in value) → AddsPins st.pins.bundles table_of_pins.bundles run.message.from (old.end.handed + 1) reps
     → GivesBack st.table u (lent_by s j st.work.running) → runs ≡ filter (λ one. not (is_run j one)) st.work.running
     → Stands s n limits (record { sessions = set st.sessions (run.message.from - 1) new; table = u; dirty = st.dirty; pins = table_of_pins; work = record { waiting = st.work.waiting; ready = st.work.ready; running = runs; replies = st.work.replies; calls = st.work.calls }; awaited = st.awaited; calls = st.calls; jobs = st.jobs }) (Finish j outcome ∷ D)

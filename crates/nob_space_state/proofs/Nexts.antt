@@ -1,5 +1,5 @@
 -- What could be done next, by the state.
-use Rattle.std.proofs.Common.{◌≡◌, ℕ, ◌+◌, ◌<◌, ◌≤◌, ◌==◌, ◌&&◌, not, nat_lt, true, false, List, find, Option, Some, None, Ok, is_some, option_map, refl, sym, ap, subst, ◌∙◌, arith}
+use Rattle.std.proofs.Common.{◌≡◌, ℕ, ◌+◌, ◌<◌, ◌≤◌, ◌==◌, ◌&&◌, not, nat_lt, Bool, true, false, List, [], ◌∷◌, find, Option, Some, None, Ok, is_some, option_map, refl, sym, ap, subst, ◌∙◌, arith}
 use Rattle.std.specs.Prelude.{◌≢◌, MatchOption}
 use Rattle.std.proofs.lemmas.Bool.Decides.{nat_tests, Decides-eqb}
 use Rattle.std.proofs.lemmas.Cmp.{nat_eq_equiv}
@@ -22,7 +22,8 @@ use Rattle.nob_model_history.specs.declared.history.History.{History}
 use Rattle.nob_model_history.specs.Ends.{calls_at}
 use Rattle.nob_model_history.specs.Histories.{history_of}
 use Rattle.nob_model_acting.specs.Candidates.{is_free}
-use Rattle.nob_model.specs.Next.{can_act, can_claim, to_withdraw}
+use Rattle.nob_model_history.specs.Transit.{is_some_of}
+use Rattle.nob_model.specs.Next.{can_act, can_send, can_claim, to_withdraw}
 use Rattle.nob_model.specs.Right.{own_ref, right_withdraw}
 use Rattle.nob_model_acting.specs.Sending.{unless}
 use Rattle.nob_model.proofs.Possible.{least_law}
@@ -44,6 +45,20 @@ mapped_some f None = refl
 -- there is an item to act on where the inbox of an open session has a front
 pub act_there : {s n : ℕ} {limits : Limits} {st : State} {D : List Deed} → Stands s n limits st D → (p : ℕ) → is_peer s n p ≡ true → has_closed st.sessions p ≡ false → can_act s n p (history_of s n D) ≡ is_some (right_front (calls_at p (history_of s n D)))
 act_there {s} {n} {limits} {st} {D} stands p peer still = rw (peer, sym (closed_there stands p), still) refl
+
+-- there is none of a session that has closed
+pub act_shut : {s n : ℕ} {limits : Limits} {st : State} {D : List Deed} → Stands s n limits st D → (p : ℕ) → is_peer s n p ≡ true → has_closed st.sessions p ≡ true → false ≡ can_act s n p (history_of s n D)
+act_shut {s} {n} {limits} {st} {D} stands p peer cut = sym (rw (peer, sym (closed_there stands p), cut) refl)
+
+-- whether something is there, as a look says that tells the empty list from all others
+pub some_by : {A : Type 0} (b : Bool) (xs : List A) → (b ≡ true → xs ≢ []) → (b ≡ false → xs ≡ []) → b ≡ is_some_of xs
+some_by true [] some none = absurd (some refl refl)
+some_by true (x ∷ xs) some none = refl
+some_by false xs some none = sym (ap is_some_of (none refl))
+
+-- whether a Transmit to a peer would give a frame is told by the calls on the end with it
+pub send_there : (s n p window : ℕ) (h : History) → is_peer s n p ≡ true → can_send s n p window h ≡ is_some_of (right_transmit s p window (calls_at p h))
+send_there s n p window h peer = rw peer refl
 
 -- what a Transmit to a peer would give is told by the calls on the end with it
 pub due_there : (s n p window : ℕ) (h : History) → is_peer s n p ≡ true → due s n p window h ≡ due_of (transmitted (calls_at p h)) (right_transmit s p window (calls_at p h))

@@ -13,6 +13,8 @@ use Rattle.nob_item.specs.Kinds.{counted_in, refs_carried}
 use Rattle.nob_pins.specs.Bundles.{Pinned, CountsOf, count_of}
 use Rattle.nob_session.specs.Calls.{reopening_of}
 use Rattle.nob_session.specs.Stands as session
+use Rattle.nob_session.specs.Onward.{StandsOnward}
+use Rattle.nob_session.proofs.Alike.{onward_is}
 use Rattle.nob_session.specs.Stands.{End, Roomy}
 use Rattle.nob_table_rows.proofs.Same.{same_is, same_laws}
 use Rattle.nob_table_rows.specs.Counts as counts
@@ -21,8 +23,7 @@ use Rattle.nob_table_rows.specs.Standings.{unknown, is_known}
 use Rattle.nob_table_rows.specs.declared.standing.Standing.{Standing}
 use Rattle.nob_table_rows.specs.declared.standing.State.TheVariants as states
 use Rattle.nob_table.specs.Table.{Table, standing, is_of, KnowsOf}
-use Rattle.nob_model_session.specs.End.{last_session, seen}
-use Rattle.nob_model_session.specs.declared.entry.EndEntry.{EndEntry}
+use Rattle.nob_model_session.specs.End.{last_session, number, seen}
 use Rattle.nob_model_session.specs.declared.entry.EndEntry.TheVariants as ends
 use Rattle.nob_model_types.specs.declared.answer.Answer.TheVariants as answers
 use Rattle.nob_model_types.specs.declared.refusal.Refusal.TheVariants as refusals
@@ -210,8 +211,12 @@ held_third : (a b c : Bool) → c ≡ true → (a || b || c) ≡ true
 held_third a b c e = elim a as (λ x. (x || b || c) ≡ true) [ true ↦ refl | false ↦ rw e (or_true b) ]
 
 -- the number of the next session of an end
-next_is : (s n p : ℕ) (limits : Limits) (D : List Deed) (e : End) → session.Stands s p limits e (calls_at p (history_of s n D)) → next_of e ≡ next_number p (history_of s n D)
-next_is s n p limits D e stood = λ i. max ((ap (λ (one : End). one.number) stood ∙ number_is s n p D) i + 1) (ap (λ (one : End). one.seen) stood i)
+next_is : (s n p : ℕ) (limits : Limits) (D : List Deed) (e : End) → StandsOnward s p limits e (calls_at p (history_of s n D)) → next_of e ≡ next_number p (history_of s n D)
+next_is s n p limits D e stood =
+    let at : e.number ≡ number (calls_at p (history_of s n D)) = ap (λ (one : End). one.number) (onward_is stood) in
+    let latest : max e.number e.seen ≡ max (number (calls_at p (history_of s n D))) (seen (calls_at p (history_of s n D))) = ap (λ (one : End). one.seen) (onward_is stood) in
+    let next : max (e.number + 1) e.seen ≡ max (number (calls_at p (history_of s n D)) + 1) (seen (calls_at p (history_of s n D))) = omega (arith, at, latest) in
+    next ∙ ap (λ k. max (k + 1) (seen (calls_at p (history_of s n D)))) (number_is s n p D)
 
 above_last : (k : ℕ) → last_session < k → nat_lt last_session k ≡ true
 above_last k far = grind (arith, nat_tests, far)
@@ -347,13 +352,13 @@ module _ {s n : ℕ} {limits : Limits} {st : State} {D : List Deed} (stands : St
   ] refl
 
   -- after the opening
-  pub opened_stands : (old new : Roomy) → old ≡ get_or st.sessions (p - 1) old → session.Stands s p limits new.end (ends.Reopen k (Ok tt) ∷ calls_at p (history_of s n D))
+  pub opened_stands : (old new : Roomy) → old ≡ get_or st.sessions (p - 1) old → StandsOnward s p limits new.end (ends.Reopen k (Ok tt) ∷ calls_at p (history_of s n D))
       → Stands s n limits (with_sessions (set st.sessions (p - 1) new) st) (Open p k ∷ D)
   opened_stands old new is after =
       let there = end_there s n limits st.sessions (history_of s n D) p old stands.ends (open_peer s n limits p k D its) is in
       record {
         ends = ends_changed s n limits st.sessions (history_of s n D) (history_of s n (Open p k ∷ D)) p new stands.ends there.0
-            (subst (λ calls. session.Stands s p limits new.end calls) (sym (calls_opened s n p k D)) after)
+            (subst (λ calls. StandsOnward s p limits new.end calls) (sym (calls_opened s n p k D)) after)
             (λ q other. sym (calls_other s n q p k D (nat_eq_equiv.symm p q ∙ other)));
         table = table_then;
         listed = λ index client. stands.listed index client ∙ sym (listed_then index client);

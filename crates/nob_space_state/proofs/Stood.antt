@@ -1,10 +1,10 @@
 -- A state that stands for a list stands for it with a quiet deed more, once its table does.
-use Rattle.std.proofs.Common.{◌≡◌, ℕ, ◌+◌, true, List, ◌∷◌, length, map, if◌then◌else◌, None, refl, sym, ap, ◌∙◌}
+use Rattle.std.proofs.Common.{◌≡◌, ℕ, ◌+◌, true, List, ◌∷◌, length, map, if◌then◌else◌, None, refl, sym, ap, subst, ◌∙◌}
 use Rattle.std.specs.List.{sum_by}
 use Rattle.nob_ids.specs.Names.{is_counted}
 use Rattle.nob_ids.specs.declared.limits.Limits.{Limits}
 use Rattle.nob_ids.specs.declared.wire_rep.WireRep.{WireRep}
-use Rattle.nob_session.specs.Stands.{end_of}
+use Rattle.nob_session.specs.Onward.{StandsOnward}
 use Rattle.nob_table_rows.specs.Counts.{is_held}
 use Rattle.nob_table_rows.specs.Standings as standings
 use Rattle.nob_table.specs.Table.{Table, standing}
@@ -47,7 +47,7 @@ module _ {s n : ℕ} {deed : Deed} {D : List Deed} (quiet : IsQuiet s n deed D) 
   stands_quiet {limits} {st} t stands table its = record {
     ends = record {
       each = stands.ends.each;
-      ends = λ place end there. stands.ends.ends place end there ∙ ap (λ calls. end_of s (place + 1) limits calls) (sym (quiet.calls (place + 1)));
+      ends = λ place end there. subst (λ calls. StandsOnward s (place + 1) limits end.end calls) (sym (quiet.calls (place + 1))) (stands.ends.ends place end there);
     };
     table = table;
     listed = λ index client. stands.listed index client ∙ sym (quiet.listed index client);

@@ -6,6 +6,7 @@ use Rattle.nob_ids.specs.Names.{is_counted}
 use Rattle.nob_ids.specs.declared.limits.Limits.{Limits}
 use Rattle.nob_ids.specs.declared.wire_rep.WireRep.{WireRep}
 use Rattle.nob_session.specs.Stands.{End, Roomy, is_open_end}
+use Rattle.nob_session.proofs.Alike.{onward_is}
 use Rattle.nob_table_rows.specs.Counts as counts
 use Rattle.nob_table.specs.Table.{standing}
 use Rattle.nob_table_rows.specs.Standings as standings
@@ -46,7 +47,7 @@ module _ {s n : ℕ} {limits : Limits} {st : State} {D : List Deed} (stands : St
   pub ended_there : (p : ℕ) (end : Roomy) → 1 ≤ p → slice_get st.sessions (p - 1) ≡ Some end → not (is_open_end end.end) ≡ closed p D
   ended_there p end low there =
       let place : p - 1 + 1 ≡ p = omega (arith, low) in
-      let is : is_open_end end.end ≡ is_open (calls_at (p - 1 + 1) (history_of s n D)) = ap is_open_end (stands.ends.ends (p - 1) end there) in
+      let is : is_open_end end.end ≡ is_open (calls_at (p - 1 + 1) (history_of s n D)) = ap is_open_end (onward_is (stands.ends.ends (p - 1) end there)) in
       let still : is_open_end end.end ≡ not (closed p D) = is ∙ open_calls s n (p - 1 + 1) D ∙ ap (λ q. not (closed q D)) place in
       elim (closed p D) as (λ b. is_open_end end.end ≡ not b → not (is_open_end end.end) ≡ b) [ true ↦ λ e. rw e refl | false ↦ λ e. rw e refl ] still
 
@@ -81,7 +82,7 @@ module _ {s n : ℕ} {limits : Limits} {st : State} {D : List Deed} (stands : St
   number_at p low peer =
       let place : p - 1 + 1 ≡ p = omega (arith, low) in
       elim (slice_get st.sessions (p - 1)) as (λ end. slice_get st.sessions (p - 1) ≡ end → number_of end ≡ number p D) [
-        | Some end ↦ λ there. ap (λ (e : End). e.number) (stands.ends.ends (p - 1) end there) ∙ number_is s n (p - 1 + 1) D ∙ ap (λ (q : ℕ). number q D) place
+        | Some end ↦ λ there. ap (λ (e : End). e.number) (onward_is (stands.ends.ends (p - 1) end there)) ∙ number_is s n (p - 1 + 1) D ∙ ap (λ (q : ℕ). number q D) place
         | None ↦ λ nowhere. let bad : true ≡ false = sym peer ∙ no_peer p low nowhere in absurd (cc)
       ] refl
 

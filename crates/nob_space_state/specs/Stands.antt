@@ -7,6 +7,7 @@ use Rattle.nob_ids.specs.declared.wire_rep.WireRep.{WireRep}
 use Rattle.nob_item.specs.Kinds.{counted_in}
 use Rattle.nob_session.specs.Stands as session
 use Rattle.nob_session.specs.Stands.{Roomy}
+use Rattle.nob_session.specs.Onward.{StandsOnward}
 use Rattle.nob_dirty.specs.Sets.{lists}
 use Rattle.nob_pins.specs.Bundles.{Pinned, bundle_of}
 use Rattle.nob_model_types.specs.declared.answer.Answer.{Answer}
@@ -30,10 +31,10 @@ use Rattle.nob_space_state.specs.declared.error.SpaceError.TheVariants as errors
 use Rattle.nob_space_state.specs.declared.parts.Parts.{Parts}
 use Rattle.nob_space_state.specs.Parts.{State, state_of}
 
--- the ends stand for the calls on them: at place p - 1 the one with space p
+-- the ends stand, from their sessions onward, for the calls on them: at place p - 1 the one with space p
 pub record EndsStand (s n : ℕ) (limits : Limits) (sessions : List Roomy) (h : History) : Type 0 where
   pub each : length sessions ≡ n
-  pub ends : (place : ℕ) (end : Roomy) → slice_get sessions place ≡ Some end → session.Stands s (place + 1) limits end.end (calls_at (place + 1) h)
+  pub ends : (place : ℕ) (end : Roomy) → slice_get sessions place ≡ Some end → StandsOnward s (place + 1) limits end.end (calls_at (place + 1) h)
 
 -- what was sent, as the bundle of its pins
 abbrev pub bundle : SentItem → Pinned

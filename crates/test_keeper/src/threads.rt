@@ -81,7 +81,11 @@ fn seats_of(alloc: Global, seat: Seat, one: Left, other: Left) -> Option<Vec<Sea
 }
 
 /// What the two threads leave that hold the object of an index once more.
-pub(crate) fn by_two<R: Threads + Wait + Sync>(rt: &R, keeper: &Keeper, index: u64) -> (Left, Left) {
+pub(crate) fn by_two<R: Threads + Wait + Sync>(
+    rt: &R,
+    keeper: &Keeper,
+    index: u64,
+) -> (Left, Left) {
     thread::join(
         rt,
         move || hold_and_release(rt, keeper, index),
@@ -111,7 +115,12 @@ fn object(index: u64) -> WireRep {
 }
 
 /// Whether the space does this.
-pub(crate) fn is_answered<R: Wait>(rt: &R, keeper: &Keeper, seat: &mut Seat, event: &Event) -> bool {
+pub(crate) fn is_answered<R: Wait>(
+    rt: &R,
+    keeper: &Keeper,
+    seat: &mut Seat,
+    event: &Event,
+) -> bool {
     keeper.call(rt, seat, event, 0).is_ok()
         && match seat.newest() {
             Some(receipt) => receipt.result.is_ok(),

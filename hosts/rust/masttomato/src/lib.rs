@@ -15,7 +15,7 @@ mod pass;
 pub mod space;
 
 #[cfg(feature = "node")]
-pub use engine::{Counts, Session, Why};
+pub use engine::{Counts, Report, Session, SessionReport, Why};
 #[cfg(feature = "node")]
 pub use interface::Interface;
 #[cfg(feature = "node")]

@@ -83,6 +83,29 @@ pub struct Work {
     pub index: u64,
 }
 
+/// What went each way on the present session with a peer, and how it ended.
+///
+/// ```
+/// # use masttomato_sys::{Handle, Tally};
+/// # let mut handle = Handle::new(1, 2, 8, 16)?;
+/// handle.call(2, 0, 0, &[0]);
+/// assert_eq!(handle.tally(2), Tally { session: 1, closed: 0, sent: 1, acted: 0 });
+/// assert_eq!(handle.tally(1), Tally::default());                   // that is no peer
+/// # Ok::<(), u32>(())
+/// ```
+#[repr(C)]
+#[derive(Clone, Copy, Debug, Default, PartialEq, Eq)]
+pub struct Tally {
+    /// The session's number, from 1 on: 0 where there is no such peer, and then all is 0.
+    pub session: u32,
+    /// The number of the reason why this end closed, 1 to 6, or 0 where it is open.
+    pub closed: u32,
+    /// How many items were handed to the peer.
+    pub sent: u64,
+    /// How many of the peer's items were acted on here.
+    pub acted: u64,
+}
+
 /// What a call answered: a status, and what it told.
 ///
 /// ```

@@ -9,12 +9,12 @@
 //!   threads, can't make one but by unsafe code of another crate.
 //! - A pointer and a length come from one slice, which lives through the call and which nothing
 //!   writes meanwhile. The pointer of a slice is never null, and no function keeps it.
-//! - `Told` and `Work` are laid out as the library has them. They, and what bytes are copied to, are
+//! - `Told`, `Work` and `Tally` are laid out as the library has them. They, and what bytes are copied to, are
 //!   the caller's own, and apart from the handle and from every slice.
 //! - The library allocates by the `malloc`, `realloc` and `free` of the process, which is what it
 //!   is linked with. What it allocates it frees itself.
 
-use crate::{Answered, Told, Work};
+use crate::{Answered, Tally, Told, Work};
 use std::cell::UnsafeCell;
 use std::ffi::c_void;
 use std::fmt;
@@ -79,6 +79,8 @@ unsafe extern "C" {
     fn nob_reply_ready(handle: *mut RawHandle, call: u64) -> bool;
     fn nob_work(handle: *mut RawHandle, work: *mut Work);
     fn nob_due(handle: *mut RawHandle, peer: u16) -> u32;
+    fn nob_tally(handle: *mut RawHandle, peer: u16, tally: *mut Tally);
+    fn nob_live(handle: *mut RawHandle) -> u64;
 }
 
 /// A space in the library. Its functions are those of the library by the same names without `nob_`, and are the
@@ -286,5 +288,19 @@ impl Handle {
     pub fn due(&self, peer: u16) -> u32 {
         // SAFETY: as of `lists`.
         unsafe { nob_due(self.0.get(), peer) }
+    }
+
+    /// What went each way on the session with a peer.
+    pub fn tally(&self, peer: u16) -> Tally {
+        let mut tally = Tally::default();
+        // SAFETY: as of `lists`; the tally is written alone.
+        unsafe { nob_tally(self.0.get(), peer, &mut tally) };
+        tally
+    }
+
+    /// How many objects are live.
+    pub fn live(&self) -> u64 {
+        // SAFETY: as of `lists`.
+        unsafe { nob_live(self.0.get()) }
     }
 }

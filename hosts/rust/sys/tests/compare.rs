@@ -9,7 +9,7 @@ fn the_stand_in_is_compared_with_the_library() {
 
 #[cfg(nob_host_library)]
 mod compared {
-    use masttomato_sys::{Answered, Work, proved, stand_in};
+    use masttomato_sys::{Answered, Tally, Work, proved, stand_in};
 
     const SPACES: usize = 3;
     const SEEDS: u64 = 2_000;
@@ -173,8 +173,10 @@ mod compared {
             let pair = &mut self.spaces[place];
             let _: Work = both!(&mut *pair, work);
             both!(&mut *pair, value);
+            both!(&mut *pair, live);
             for peer in 0..=4 {
                 both!(&mut *pair, due, peer);
+                let _: Tally = both!(&mut *pair, tally, peer);
                 for index in 0..4 {
                     both!(&mut *pair, lists, index, peer);
                     both!(&mut *pair, reply_ready, index);

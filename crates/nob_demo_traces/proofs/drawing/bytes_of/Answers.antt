@@ -1,10 +1,7 @@
-use Rattle.std.proofs.Common.{ap, ◌∙◌}
-use Rattle.nob_trace.specs.declared.fault.TraceFault.{TraceFault}
-use Rattle.nob_trace.specs.declared.fault.TraceError.TheVariants as trace_errors
-use Rattle.nob_trace.specs.Faults.{refusal_line}
+use Rattle.std.proofs.Common.{◌∙◌}
 use Rattle.nob_demo_traces.proofs.WrittenDrawings.{unread_written}
 use Rattle.nob_demo_traces.proofs.drawing.bytes_of.Goals as goal
 
 pub returns-in_ok-to_vec-in-Err-Fault : goal.returns-in_ok-to_vec-in-Err-Fault
 returns-in_ok-to_vec-in-Err-Fault c = unread_written c.args.input.now c.args.part c.in-Err-Fault.fault _ c.in-Err-Fault.field-0 c.in-Err-Fault.field-0-is c.in-Err-Fault.ensures.found
-    (c.in_ok-to_vec-in-Err-Fault.ensures.items_if_clones_equal (λ x y same. same) ∙ c.refusal_line.ensures ∙ ap (λ (fault : TraceFault). refusal_line (trace_errors.Fault fault)) c.in-Err-Fault.fault-is)
+    (c.in_ok-to_vec-in-Err-Fault.ensures.items_if_clones_equal (λ x y same. same) ∙ c.refusal_line.ensures)

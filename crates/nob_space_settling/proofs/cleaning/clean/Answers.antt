@@ -1,7 +1,6 @@
-use Rattle.std.proofs.Common.{◌≡◌, ◌-◌, ◌<◌, ℕ, ◌∷◌, get_or, sym, subst, ◌∙◌, arith}
+use Rattle.std.proofs.Common.{◌≡◌, ◌-◌, ◌<◌, ℕ, ◌∷◌, Ok, get_or, refl, sym, subst, ◌∙◌, arith}
 use lib.ListN.{set}
 use Rattle.nob_model_session.specs.End.{last_item}
-use Rattle.nob_model_history.specs.Ends.{calls_at}
 use Rattle.nob_model_history.specs.Histories.{history_of}
 use Rattle.nob_model_types.specs.declared.deed.Deed.TheVariants as did
 use Rattle.nob_space_state.specs.Parts.{State, state_of}
@@ -11,6 +10,9 @@ use Rattle.nob_space_state.proofs.Ends.{end_there, stands_kept}
 use Rattle.nob_space_state.proofs.Passing.{wants_as, after_error}
 use Rattle.nob_space_state.proofs.Firsts.{some_same}
 use Rattle.nob_session.specs.Stands.{Roomy}
+use Rattle.nob_session.proofs.Alike.{stepped_onward}
+use Rattle.nob_model_session.specs.declared.entry.EndEntry.TheVariants as ends
+use Rattle.nob_model_session.specs.declared.entry.Kind.TheVariants.{Note}
 use Rattle.nob_space_settling.proofs.Spares.{apart_there, asked_there, pinned_there}
 use Rattle.nob_space_settling.proofs.Forgetting.{clean_is, clean_none, clean_full, clean_right, clean_wants, clean_next, clean_stands}
 use Rattle.nob_space_settling.proofs.cleaning.clean.Goals as goal
@@ -110,5 +112,5 @@ returns-clause-stands c limits D stands =
     }) (did.Clean c.in-Some.rep ∷ D)) (sym c.place-place.ensures.value)
     (clean_stands stands c.in-Some.rep (c.in-Some.ensures {u = tt}) c.index_mut-session.result.now is c.send_note.new.session c.forget.new.table c.in_ok-payload.payload.items c.in_ok-send_note.field-0
     (clean_is c.args.parts.now.here.space c.args.parts.now.here.n limits D c.in-Some.rep (returns-clause-answer c limits D stands)) c.in_ok-payload.ensures.spelled sent.number
-    (λ before. sent.answer c.args.parts.now.here.space c.in-Some.rep.owner limits (calls_at c.in-Some.rep.owner (history_of c.args.parts.now.here.space c.args.parts.now.here.n D)) before)
+    (λ before. stepped_onward (ends.Send c.in_ok-payload.payload.items Note (Ok c.in_ok-send_note.field-0)) refl before (λ M stood. sent.answer c.args.parts.now.here.space c.in-Some.rep.owner limits M stood))
     c.forget.ensures.row c.forget.ensures.place c.forget.ensures.unkept c.forget.ensures.left)

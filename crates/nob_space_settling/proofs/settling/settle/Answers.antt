@@ -3,7 +3,6 @@ use lib.ListN.{set}
 use Rattle.std.specs.Option.{option_map}
 use Rattle.nob_item.specs.Judging.{is_call_number}
 use Rattle.nob_model_session.specs.End.{last_item}
-use Rattle.nob_model_history.specs.Ends.{calls_at}
 use Rattle.nob_model_history.specs.Histories.{history_of}
 use Rattle.nob_model_types.specs.declared.deed.Deed.TheVariants as did
 use Rattle.nob_ids.specs.declared.wire_rep.WireRep.{WireRep}
@@ -20,7 +19,7 @@ use Rattle.nob_space_state.proofs.Firsts.{some_same}
 use Rattle.nob_space_settling.specs.Settling.{has_lost, lost_call, given_count, loans_ended}
 use Rattle.nob_space_settling.proofs.Resolving.{message_sound, settle_none, settle_full, settle_right, settle_wants, some_given}
 use Rattle.nob_space_settling.proofs.Settleable.{is_settleable}
-use Rattle.nob_space_settling.proofs.Settlements.{settle_lent, settle_open, settle_stands, same_count, lost_numbered}
+use Rattle.nob_space_settling.proofs.Settlements.{settle_lent, settle_open, notes_onward, settle_stands, same_count, lost_numbered}
 use Rattle.nob_space_settling.proofs.Numbering.{number_there, settle_spelled}
 use Rattle.nob_space_settling.proofs.settling.settle.Goals as goal
 
@@ -249,6 +248,6 @@ returns-clause-stands c limits D stands =
     }) (did.Settle c.in-Some.message.now.from c.in-Some.message.now.number ∷ D)) (sym c.place-at.ensures.value)
     (settle_stands stands c.in-Some.message.now seen c.index_mut-session.result.now is left c.send_notes.new.session c.put_settled.new.parts.table _ c.in_ok-settle.settle.items (option_map (λ payload. payload.items) c.in_ok-reply.reply)
     c.in_ok-settle.ensures.spelled (reply ∙ ap (option_map _) call)
-    (λ before. c.in_ok-send_notes.ensures.answer c.args.parts.now.here.space c.in-Some.message.now.from limits (calls_at c.in-Some.message.now.from (history_of c.args.parts.now.here.space c.args.parts.now.here.n D)) before)
+    (λ before. notes_onward c.index_mut-session.result.now.end.handed c.in_ok-settle.settle.items (option_map (λ payload. payload.items) c.in_ok-reply.reply) before (λ M stood. c.in_ok-send_notes.ensures.answer c.args.parts.now.here.space c.in-Some.message.now.from limits M stood))
     (subst (GivesBack c.args.parts.now.table c.put_settled.new.parts.table) (λ i. loans_ended c.args.parts.now.here.space (one i) (one i).item (c.has_lost-lost.ensures i)) c.put_settled.ensures.back)
     (λ i. after_settlement (one i) (one i).item (c.has_lost-lost.ensures i) (record { waiting = c.take_settleable.ensures.items i; ready = c.reserve_ready.ensures.ready i; running = c.reserve_ready.ensures.running i; replies = c.reserve_replies.ensures.replies i; calls = c.reserve_replies.ensures.calls i }))))))

@@ -1,6 +1,6 @@
 //! What comes over connections: records, frames, and the items in them.
 
-use super::wire::{self, ItemKind, Kind};
+use super::wire::{self, ItemKind, Kind, Seen};
 use super::{Answered, Engine, MOST_UNANSWERED, Misbehaved, STUCK, Session};
 use crate::space::{
     ActResult, ArriveError, Arrived, CallNo, CallResult, Reason, Refusal, SpaceError, SpaceId,
@@ -109,37 +109,54 @@ impl Engine {
     fn arrive_all(&mut self, peer: SpaceId, body: &[u8], now: Duration) -> Result<(), Misbehaved> {
         for seen in wire::frames_of(body) {
             self.counts.frames_in += 1;
-            let arrived = match self.space.arrive_bytes(seen.bytes) {
-                Ok(arrived) => arrived,
-                Err(ArriveError::Fault(_)) => return Err(Misbehaved::NoFrame),
-                Err(ArriveError::Space(_)) => {
-                    self.counts.wants += 1;
-                    continue;
-                }
-            };
-            let Some(link) = self.links.get_mut(peer) else { continue };
-            let is_heard = seen.session() == link.number;
-            if is_heard {
-                link.acked = link.acked.max(seen.ack());
-            }
-            if seen.is_data() {
-                if link.owed == 0 {
-                    link.owed_since = now;
-                }
-                link.owed += 1;
-            }
-            match arrived {
-                Arrived::Took(count) if is_heard && seen.is_data() && link.is_open() => {
-                    link.came(&seen, count);
-                }
-                Arrived::Took(_) => {}
-                Arrived::Closed(reason) => self.closed(peer, reason),
-            }
+            self.arrive(peer, &seen, now)?;
         }
         if let Some(link) = self.links.get_mut(peer) {
             link.sent.acknowledge(link.acked);
         }
         Ok(())
+    }
+
+    // A frame comes to the space. One of a session that isn't open here is kept until it is.
+    fn arrive(&mut self, peer: SpaceId, seen: &Seen<'_>, now: Duration) -> Result<(), Misbehaved> {
+        let arrived = match self.space.arrive_bytes(seen.bytes) {
+            Ok(arrived) => arrived,
+            Err(ArriveError::Fault(_)) => return Err(Misbehaved::NoFrame),
+            Err(ArriveError::Space(_)) => {
+                self.counts.wants += 1;
+                return Ok(());
+            }
+        };
+        if let Arrived::Closed(reason) = arrived {
+            self.closed(peer, reason);
+        }
+        let Some(link) = self.links.get_mut(peer) else { return Ok(()) };
+        let is_heard = seen.session() == link.number;
+        if is_heard {
+            link.acked = link.acked.max(seen.ack());
+        }
+        if !seen.is_data() {
+            return Ok(());
+        }
+        if link.owed == 0 {
+            link.owed_since = now;
+        }
+        link.owed += 1;
+        match arrived {
+            Arrived::Took(count) if is_heard && link.is_open() => link.came(seen, count),
+            _ => link.passed_over(seen),
+        }
+        Ok(())
+    }
+
+    // The session with a peer is open anew, under this number: what was passed over of it comes again.
+    pub(super) fn bring_passed_over(&mut self, peer: SpaceId, now: Duration) {
+        let Some(link) = self.links.get_mut(peer) else { return };
+        for bytes in link.take_passed_over() {
+            // It was a frame when it came first.
+            let _is_frame = self.arrive(peer, &Seen { bytes: &bytes }, now);
+        }
+        self.act(peer, now);
     }
 
     // Acts on all that waits from a peer. What there is no room for is tried again later.

@@ -1,9 +1,21 @@
 //! What goes over connections, and when.
 
 use super::wire::{self, Kind, Seen};
-use super::{ACK_ITEMS, ACK_WAITS, Engine, NO_PONG, SILENCE, STUCK};
+use super::{ACK_ITEMS, ACK_WAITS, Engine, NO_PONG, SILENCE, STUCK, TraceSink};
 use crate::space::{Due, Frames, SpaceId};
 use std::time::Duration;
+
+// Whether a sink, where there is one, has taken these lines. One that hasn't is given no more.
+fn is_put(sink: &mut Option<Box<dyn TraceSink>>, lines: &str) -> bool {
+    let is_taken = match sink {
+        Some(sink) if !lines.is_empty() => sink.entries(lines).is_ok(),
+        _ => true,
+    };
+    if !is_taken {
+        *sink = None;
+    }
+    is_taken
+}
 
 impl Engine {
     /// Fills each connection's output that is empty and that there is something for.
@@ -147,14 +159,12 @@ impl Engine {
         chosen.iter().for_each(|frame| out.extend(frame.bytes));
     }
 
-    // The entries of the trace go to the sink before the bytes leave.
-    fn flush(&mut self) {
-        let Some(sink) = &mut self.sink else { return };
+    // The entries of the trace go to their sink before the bytes leave, and what of the chain is sealed to its own.
+    pub(super) fn flush(&mut self) {
         let lines = self.space.take_lines();
-        if !lines.is_empty() && sink.entries(&lines).is_err() {
-            self.counts.trace_faults += 1;
-            self.sink = None;
-        }
+        self.counts.trace_faults += u64::from(!is_put(&mut self.sink, &lines));
+        let segments = self.space.take_segments();
+        self.counts.trace_faults += u64::from(!is_put(&mut self.chain_sink, &segments));
     }
 
     // When a peer that is connected wants the next turn at the latest.

@@ -3,7 +3,7 @@
 use super::wire::{self, ItemKind, Life, Seen, Why};
 use super::{Session, Ticket};
 use crate::space::{CallNo, JobNo, Outcome, Reference, SpaceId, Value};
-use std::collections::{HashMap, VecDeque};
+use std::collections::{BTreeMap, HashMap, VecDeque};
 use std::time::Duration;
 
 /// So many numbers from the next on are in a space's reach: it keeps items of these that come early.
@@ -154,6 +154,15 @@ impl Sent {
     }
 }
 
+/// Frames of data that came of a session before it was opened here, in which the space takes nothing from
+/// them: by their numbers, of the newest session alone. A peer transmits no others before this space has
+/// acknowledged anything of that session, and the space never heard of it.
+#[derive(Debug, Default)]
+struct PassedOver {
+    session: u32,
+    frames: BTreeMap<u64, Box<[u8]>>,
+}
+
 /// A call that waits to be made.
 #[derive(Debug)]
 pub(super) struct HeldCall {
@@ -196,6 +205,7 @@ pub(super) struct Link {
     early: VecDeque<Option<ItemKind>>,
     accepted: u64,
     pub(super) unsettled: HashMap<u64, CallNo>,
+    passed_over: PassedOver,
     /// The calls of the peer that were acted on and have no reply on its way: whether each was cancelled;
     /// and how many calls were acted on, and replies given.
     pub(super) asked: HashMap<u64, bool>,
@@ -238,6 +248,7 @@ impl Link {
             early: VecDeque::new(),
             accepted: 0,
             unsettled: HashMap::new(),
+            passed_over: PassedOver::default(),
             asked: HashMap::new(),
             calls_acted_on: 0,
             replies_given: 0,
@@ -312,6 +323,28 @@ impl Link {
             self.inbox.push_back(kind.unwrap_or(ItemKind::Other));
         }
         self.accepted += accepted;
+    }
+
+    /// A frame of data came of which the space took nothing. Where it is of a later session than this end is in it is
+    /// kept for that one: of two of one number the first.
+    pub(super) fn passed_over(&mut self, frame: &Seen<'_>) {
+        let kept = &mut self.passed_over;
+        let session = frame.session();
+        if session <= self.number || session < kept.session || !(1..=REACH).contains(&frame.seq()) {
+            return;
+        }
+        if session > kept.session {
+            *kept = PassedOver { session, frames: BTreeMap::new() };
+        }
+        kept.frames.entry(frame.seq()).or_insert_with(|| frame.bytes.into());
+    }
+
+    /// What was passed over of the session that this end is in now, in the order of its numbers. Nothing is kept
+    /// then.
+    pub(super) fn take_passed_over(&mut self) -> impl Iterator<Item = Box<[u8]>> + use<> {
+        let kept = std::mem::take(&mut self.passed_over);
+        let is_its = kept.session == self.number;
+        kept.frames.into_values().filter(move |_| is_its)
     }
 
     /// The session has closed: what came, and what isn't acknowledged, is thrown away.

@@ -30,18 +30,20 @@
 mod coming;
 mod going;
 mod link;
+mod report;
 mod trace;
 mod turning;
 mod wire;
 
 pub use link::OutBuffer;
+pub use report::{Report, SessionReport};
 pub use trace::{Files, TraceSink};
 pub use wire::{HELLO, Hello, LONGEST_BODY, Life, Why, World};
 
 use crate::numbers::ByNumber;
 use crate::space::{
-    CallNo, Due, Job, JobNo, Limits, Outcome, Reason, Reference, Refusal, Space, SpaceError,
-    SpaceId, Status, Value,
+    CallNo, Due, Job, JobNo, Limits, Outcome, Reason, Reference, Refusal, SegmentSize, Space,
+    SpaceError, SpaceId, Status, Value,
 };
 use link::{HeldCall, HeldFinish, Link, Links};
 use std::fmt;
@@ -383,13 +385,14 @@ pub struct Engine {
     has_stuck: bool,
     look_at: Duration,
     calls: ByNumber<CallNo, (Ticket, SpaceId)>,
-    // Jobs that weren't finished, and whose they are.
-    jobs: ByNumber<JobNo, SpaceId>,
+    // Jobs that weren't finished: whose they are, and since when.
+    jobs: ByNumber<JobNo, (SpaceId, Duration)>,
     tickets: ByNumber<Ticket, Option<CallNo>>,
     ready: Vec<CallNo>,
     turn: Turn,
     counts: Counts,
     sink: Option<Box<dyn TraceSink>>,
+    chain_sink: Option<Box<dyn TraceSink>>,
 }
 
 impl fmt::Debug for Engine {
@@ -439,6 +442,7 @@ impl Engine {
             turn: Turn::default(),
             counts: Counts::default(),
             sink: None,
+            chain_sink: None,
         })
     }
 
@@ -461,6 +465,48 @@ impl Engine {
     pub fn record(&mut self, sink: Box<dyn TraceSink>) {
         self.space.keep_trace();
         self.sink = Some(sink);
+    }
+
+    /// From now on the space keeps a chain, whose segments go to a sink as they are sealed. It is to be asked for before
+    /// anything else, and may be beside a trace. See [`Files::of_segments`].
+    ///
+    /// ```
+    /// # use masttomato::engine::*;
+    /// # use masttomato::space::SegmentSize;
+    /// # use masttomato::{SpaceId, Value};
+    /// # use std::time::Duration;
+    /// # let [one, two] = [1, 2].map(|number| SpaceId::new(number).expect("1 to 32"));
+    /// # let now = Duration::ZERO;
+    /// # let mut engine = Engine::new(Settings::new(one, two), now)?;
+    /// engine.record_chain(SegmentSize::default(), Box::new(|segments: &str| {
+    ///     print!("{segments}");
+    ///     Ok(())
+    /// }));
+    /// engine.export()?;
+    /// engine.seal();                                   // now it is printed
+    /// # Ok::<(), Box<dyn std::error::Error>>(())
+    /// ```
+    pub fn record_chain(&mut self, size: SegmentSize, sink: Box<dyn TraceSink>) {
+        self.space.keep_chain(size);
+        self.chain_sink = Some(sink);
+    }
+
+    /// Seals what of the chain isn't sealed yet, and gives it to its sink: at the end, since what isn't sealed is in no
+    /// chain.
+    ///
+    /// ```
+    /// # use masttomato::engine::*;
+    /// # use masttomato::{SpaceId, Value};
+    /// # use std::time::Duration;
+    /// # let [one, two] = [1, 2].map(|number| SpaceId::new(number).expect("1 to 32"));
+    /// # let now = Duration::ZERO;
+    /// # let mut engine = Engine::new(Settings::new(one, two), now)?;
+    /// engine.seal();                                   // it keeps none
+    /// # Ok::<(), Box<dyn std::error::Error>>(())
+    /// ```
+    pub fn seal(&mut self) {
+        self.space.seal();
+        self.flush();
     }
 
     /// The number of the space.
@@ -976,7 +1022,7 @@ impl Engine {
         if let Outcome::Answer(value) | Outcome::Fault(value) = &finish.outcome {
             finish.holds = self.hold_all(value.references());
         }
-        let client = self.jobs.get(&job).copied();
+        let client = self.jobs.get(&job).map(|(client, _)| *client);
         if let Some(link) = client.and_then(|client| self.links.get_mut(client)) {
             link.finishes.push_back(finish);
             self.has_held = true;
@@ -985,7 +1031,7 @@ impl Engine {
 
     // Whether the job was finished.
     fn try_finish(&mut self, finish: &HeldFinish) -> bool {
-        let Some(client) = self.jobs.get(&finish.job).copied() else { return true };
+        let Some((client, _)) = self.jobs.get(&finish.job).copied() else { return true };
         match self.space.finish(finish.job, &finish.outcome) {
             Ok(_) => {}
             Err(error) if self.is_want_of_room(client, error) => return false,
@@ -1028,8 +1074,9 @@ impl Engine {
         }
     }
 
-    /// Opens the session with a peer anew, which has closed here: its number. The peer's program opens it as well; until
-    /// it has, what is sent to it is given again and again, as long as for a peer that doesn't acknowledge anything.
+    /// Opens the session with a peer anew, which has closed here: its number. The peer's program opens it as well. Until
+    /// it has, what is sent to it waits there, up to 64 items, and is given again and again, as long as for a peer that
+    /// doesn't acknowledge anything. What waited here of the peer's comes to the space at once.
     ///
     /// ```
     /// # use masttomato::engine::*;
@@ -1055,6 +1102,7 @@ impl Engine {
             link.open(number, now);
             self.turn.changes.push((peer, link.session));
         }
+        self.bring_passed_over(peer, now);
         Ok(number)
     }
 

@@ -1,9 +1,13 @@
 //! Where the entries of a trace go.
 
-use crate::space::{SpaceId, Trace};
+use crate::space::{Chain, SpaceId, Trace};
 use std::fs::{self, File};
 use std::io::{self, Write};
 use std::path::{Path, PathBuf};
+
+// How the names of files with entries of a trace end, and of those with segments of a chain.
+const ENTRIES: &str = "entries";
+const SEGMENTS: &str = "segments";
 
 /// Takes the entries of a trace, some lines at a time, before the bytes leave that they tell of. A function
 /// that takes them is one; [`Files`] is another.
@@ -77,6 +81,7 @@ impl<F: FnMut(&str) -> io::Result<()> + Send> TraceSink for F {
 pub struct Files {
     folder: PathBuf,
     space: SpaceId,
+    ending: &'static str,
     size: u64,
     number: u32,
     open: Option<(File, u64)>,
@@ -96,7 +101,25 @@ impl Files {
     /// # Ok::<(), Box<dyn std::error::Error>>(())
     /// ```
     pub fn new(folder: impl Into<PathBuf>, space: SpaceId, size: u64) -> Files {
-        Files { folder: folder.into(), space, size, number: 0, open: None }
+        Files { folder: folder.into(), space, ending: ENTRIES, size, number: 0, open: None }
+    }
+
+    /// The same for the segments of a chain: `space-3.000001.segments` and so on.
+    ///
+    /// ```
+    /// # use masttomato::engine::*;
+    /// # use masttomato::space::SegmentSize;
+    /// # use masttomato::{SpaceId, Value};
+    /// # use std::time::Duration;
+    /// # let [one, two] = [1, 2].map(|number| SpaceId::new(number).expect("1 to 32"));
+    /// # let now = Duration::ZERO;
+    /// # let mut engine = Engine::new(Settings::new(one, two), now)?;
+    /// let files = Files::of_segments("chains", one, 1 << 20);
+    /// engine.record_chain(SegmentSize::default(), Box::new(files));
+    /// # Ok::<(), Box<dyn std::error::Error>>(())
+    /// ```
+    pub fn of_segments(folder: impl Into<PathBuf>, space: SpaceId, size: u64) -> Files {
+        Files { ending: SEGMENTS, ..Files::new(folder, space, size) }
     }
 
     /// The trace that a space's files in a folder have together, for `nobj check`. A last line that
@@ -122,27 +145,51 @@ impl Files {
     /// # Errors
     /// Where they can't be read.
     pub fn join(folder: &Path, space: SpaceId, spaces: SpaceId) -> io::Result<String> {
-        let mut paths: Vec<PathBuf> = fs::read_dir(folder)?
-            .map(|entry| entry.map(|entry| entry.path()))
-            .collect::<io::Result<_>>()?;
-        let prefix = format!("space-{space}.");
-        let is_its = |path: &PathBuf| {
-            path.file_name()
-                .and_then(|name| name.to_str())
-                .is_some_and(|name| name.starts_with(&prefix))
-        };
-        paths.retain(is_its);
-        paths.sort();
-        let text = paths.iter().map(fs::read_to_string).collect::<io::Result<String>>()?;
+        let text = text_of(folder, space, ENTRIES)?;
         let whole = &text[..text.rfind('\n').map_or(0, |end| end + 1)];
         let count = whole.lines().count() as u64;
         Ok(Trace::first_line(space, spaces, super::LIMITS, count) + whole)
     }
 
+    /// The chain that a space's files in a folder have together, for `nobj check`. What stands behind the last seal is
+    /// left out.
+    ///
+    /// ```
+    /// use masttomato::SpaceId;
+    /// use masttomato::engine::{Files, TraceSink};
+    ///
+    /// # fn main() -> Result<(), Box<dyn std::error::Error>> {
+    /// # let folder = std::env::temp_dir().join(format!("masttomato-segments-{}", std::process::id()));
+    /// # std::fs::create_dir_all(&folder)?;
+    /// let [here, last] = [SpaceId::try_from(1)?, SpaceId::try_from(1)?];
+    /// let mut files = Files::of_segments(&folder, here, 1 << 20);
+    /// files.entries("segment 1 entries 1\n1 export = exported 1.1\nseal 1 live 1\nsegment 2 ent")?;
+    /// let chain = Files::join_chain(&folder, here, last)?;
+    /// assert_eq!(chain.lines().next(), Some("chain 1 of 1 window 64 retry 255 segments 1"));
+    /// assert_eq!(chain.lines().count(), 4);
+    /// # std::fs::remove_dir_all(&folder)?;
+    /// # Ok(())
+    /// # }
+    /// ```
+    ///
+    /// # Errors
+    /// Where they can't be read.
+    pub fn join_chain(folder: &Path, space: SpaceId, spaces: SpaceId) -> io::Result<String> {
+        let text = text_of(folder, space, SEGMENTS)?;
+        let (mut whole, mut segments, mut end) = (0, 0, 0);
+        for line in text.split_inclusive('\n') {
+            end += line.len();
+            if line.starts_with("seal ") && line.ends_with('\n') {
+                (whole, segments) = (end, segments + 1);
+            }
+        }
+        Ok(Chain::first_line(space, spaces, super::LIMITS, segments) + &text[..whole])
+    }
+
     fn file(&mut self) -> io::Result<&mut (File, u64)> {
         if self.open.as_ref().is_none_or(|(_, written)| *written >= self.size) {
             self.number += 1;
-            let name = format!("space-{}.{:06}.entries", self.space, self.number);
+            let name = format!("space-{}.{:06}.{}", self.space, self.number, self.ending);
             self.open = Some((File::create(self.folder.join(name))?, 0));
         }
         self.open.as_mut().ok_or_else(|| io::ErrorKind::NotFound.into())
@@ -156,4 +203,19 @@ impl TraceSink for Files {
         *written += lines.len() as u64;
         Ok(())
     }
+}
+
+// What a space's files of a folder whose names end so have together.
+fn text_of(folder: &Path, space: SpaceId, ending: &str) -> io::Result<String> {
+    let mut paths: Vec<PathBuf> = fs::read_dir(folder)?
+        .map(|entry| entry.map(|entry| entry.path()))
+        .collect::<io::Result<_>>()?;
+    let (prefix, suffix) = (format!("space-{space}."), format!(".{ending}"));
+    let is_its = |path: &PathBuf| {
+        let name = path.file_name().and_then(|name| name.to_str());
+        name.is_some_and(|name| name.starts_with(&prefix) && name.ends_with(&suffix))
+    };
+    paths.retain(is_its);
+    paths.sort();
+    paths.iter().map(fs::read_to_string).collect()
 }

@@ -75,7 +75,7 @@ impl Engine {
             self.look_at = now + LOOK.min(self.settings.give_up_after / u32::from(TICKS));
         }
         loop {
-            let did = self.is_stirred && self.stir();
+            let did = self.is_stirred && self.stir(now);
             for call in std::mem::take(&mut self.ready) {
                 self.take_reply(call, Reason::Asked);
             }
@@ -118,13 +118,13 @@ impl Engine {
     }
 
     // Settles, gives up, claims and withdraws what can be: whether anything was.
-    fn stir(&mut self) -> bool {
+    fn stir(&mut self, now: Duration) -> bool {
         let mut did_any = false;
         loop {
             let work = self.space.work();
             let mut did = work.settle && self.settle();
             did |= work.clean && self.space.clean().is_ok();
-            did |= work.claim && self.claims && self.claim();
+            did |= work.claim && self.claims && self.claim(now);
             did |= work.withdraw.is_some_and(|index| self.withdraw(index));
             did_any |= did;
             if !did {
@@ -144,10 +144,10 @@ impl Engine {
         true
     }
 
-    fn claim(&mut self) -> bool {
+    fn claim(&mut self, now: Duration) -> bool {
         let Ok(job) = self.space.claim() else { return false };
         self.counts.jobs_claimed += 1;
-        self.jobs.insert(job.job, job.client);
+        self.jobs.insert(job.job, (job.client, now));
         self.turn.jobs.push(job);
         true
     }

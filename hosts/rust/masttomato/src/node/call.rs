@@ -3,6 +3,7 @@
 use super::cancel::Cancel;
 use super::driver::driving;
 use super::shared::{Command, Shared};
+use super::spans::CallSpan;
 use crate::engine::{Ticket, Why};
 use crate::interface::Packed;
 use crate::pass::Pass;
@@ -176,6 +177,7 @@ pub(crate) struct CallState {
     number: AtomicU64,
     // Of a call of an own object: whether it was cancelled.
     cancel: Cancel,
+    span: CallSpan,
 }
 
 impl CallState {
@@ -185,6 +187,7 @@ impl CallState {
 
     /// Puts the answer there: who is to be woken, once nothing of the node is locked any more.
     pub(crate) fn complete(&self, completed: Completed) -> Option<Waker> {
+        self.span.completed(&completed);
         let mut slot = self.slot();
         slot.completed = Some(completed);
         self.is_done.store(true, Ordering::Release);
@@ -203,6 +206,11 @@ impl CallState {
 
     pub(crate) fn set_number(&self, number: CallNo) {
         self.number.store(number.get(), Ordering::Relaxed);
+        self.span.is_made(number);
+    }
+
+    pub(crate) fn span(&self) -> &CallSpan {
+        &self.span
     }
 }
 

@@ -6,9 +6,10 @@ use super::hold::Hold;
 use super::later::{Later, Spawn, Turned, Turner};
 use super::pool::Pool;
 use super::shared::{Command, Shared};
+use super::spans::{self, ServeSpan};
 use super::{Changes, Context, NodeError, Run};
 use crate::engine::{
-    Answered, BAD_ARGUMENTS, CANCELLED, Engine, LOST, PANICKED, Session, TOO_LARGE, Ticket,
+    Answered, BAD_ARGUMENTS, CANCELLED, Engine, LOST, PANICKED, Report, Session, TOO_LARGE, Ticket,
     fault_value,
 };
 use crate::interface::{Arguments, Description, Exported, Packed, Served};
@@ -137,8 +138,10 @@ pub(crate) struct Done {
 
 impl Task {
     pub(crate) fn run(self) -> Done {
+        let span = self.span();
         let Task { index, mut object, method, arguments, context, loans, end } = self;
-        let served = catch_unwind(AssertUnwindSafe(|| object.serve(method, arguments, &context)));
+        let serve = AssertUnwindSafe(|| object.serve(method, arguments, &context));
+        let served = span.within(|| catch_unwind(serve));
         let (object, served) = match served {
             Ok(served) => (Some(object), served),
             Err(_) => {
@@ -152,12 +155,21 @@ impl Task {
 
     // The same of a method that is async.
     fn later(self, shared: &Arc<Shared>) -> Later {
+        let span = self.span();
         let Task { index, mut object, method, arguments, context, loans, end } = self;
         let method = async move {
             let served = object.serve_async(method, arguments, &context).await;
             (object, served)
         };
-        Later::new(shared, Box::pin(method), index, loans, end)
+        Later::new(shared, Box::pin(span.around(method)), index, loans, end)
+    }
+
+    fn span(&self) -> ServeSpan {
+        let call = match &self.end {
+            End::Job { caller: (_, call), .. } => Some(*call),
+            End::Local(_) => None,
+        };
+        ServeSpan::new(self.context.caller(), call, self.index, self.method)
     }
 }
 
@@ -300,6 +312,11 @@ impl Core {
         Ok(number)
     }
 
+    /// How the node stands.
+    pub(crate) fn report(&mut self) -> Report {
+        self.engine.report(self.started.elapsed())
+    }
+
     pub(crate) fn watch(&mut self) -> Changes {
         let (sender, receiver) = mpsc::channel();
         self.watchers.push(sender);
@@ -320,6 +337,7 @@ impl Core {
         purpose: Purpose,
     ) {
         let owner = target.reference().owner;
+        state.span().calls(target.reference(), method);
         let is_mine = |hold: &Arc<Hold>| Arc::ptr_eq(hold.shared(), &self.shared);
         if !packed.holds.iter().all(is_mine) {
             return self.complete(&state, Err(CallError::OtherNode));
@@ -485,6 +503,7 @@ impl Core {
             }
         }
         for change in turn.changes {
+            spans::changed(self.engine.id(), change.0, change.1);
             self.watchers.retain(|watcher| watcher.send(change).is_ok());
         }
         self.silent.extend(turn.silent);

@@ -206,6 +206,7 @@ impl Driver {
         let by = by.max(Instant::now() + Duration::from_millis(100));
         let is_settled = || self.core.borrow().engine.is_settled().then_some(());
         let told = self.turn_until(Some(by), is_settled).is_some();
+        self.core.borrow_mut().engine.seal();
         let commands = self.shared.close();
         self.core.borrow_mut().stop(&commands);
         self.net.borrow_mut().close();

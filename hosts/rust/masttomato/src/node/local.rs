@@ -5,7 +5,7 @@ use super::driver::Driver;
 use super::hold::Remote;
 use super::shared::Shared;
 use super::{Changes, NodeError, Run, Shutdown};
-use crate::engine::{Counts, Session};
+use crate::engine::{Counts, Report, Session};
 use crate::interface::Interface;
 use crate::space::SpaceId;
 use std::fmt;
@@ -242,6 +242,20 @@ impl LocalNode {
     /// ```
     pub fn changes(&self) -> Changes {
         self.driver.ask(super::Core::watch)
+    }
+
+    /// How it stands: see [`Node::report`](crate::Node::report).
+    ///
+    /// ```
+    /// # use masttomato::{Node, Peers, SpaceId};
+    /// # fn main() -> Result<(), Box<dyn std::error::Error>> {
+    /// let node = Node::builder(SpaceId::try_from(1)?, Peers::none()).start_local()?;
+    /// assert_eq!(node.report().live, 0);
+    /// # Ok(())
+    /// # }
+    /// ```
+    pub fn report(&self) -> Report {
+        self.driver.ask(super::Core::report)
     }
 
     /// What was counted.

@@ -11,6 +11,7 @@ mod net;
 mod peers;
 mod pool;
 mod shared;
+mod spans;
 
 pub use self::call::{Call, CallError, Fault};
 pub use self::cancel::Cancelled;
@@ -25,9 +26,9 @@ use self::driver::{Driver, driving};
 use self::net::{Net, WAKER};
 use self::pool::Pool;
 use self::shared::Command;
-use crate::engine::{Counts, Engine, Hello, Life, Session, Settings, TraceSink, World};
+use crate::engine::{Counts, Engine, Hello, Life, Report, Session, Settings, TraceSink, World};
 use crate::interface::{Description, Interface};
-use crate::space::{SpaceError, SpaceId};
+use crate::space::{SegmentSize, SpaceError, SpaceId};
 use mio::net::TcpListener;
 use mio::{Poll, Waker};
 use std::fmt;
@@ -451,6 +452,7 @@ pub struct Builder {
     open_calls: usize,
     life: Life,
     sink: Option<Box<dyn TraceSink>>,
+    chain: Option<(SegmentSize, Box<dyn TraceSink>)>,
     spawner: Option<Arc<dyn Spawn>>,
 }
 
@@ -480,6 +482,7 @@ impl Builder {
             open_calls: 2_048,
             life: random_life(),
             sink: None,
+            chain: None,
             spawner: None,
         }
     }
@@ -640,6 +643,26 @@ impl Builder {
         self
     }
 
+    /// The space keeps a chain of segments of this size, which go to a sink as they are sealed, the last one when the node
+    /// ends: for `nobj check`, as traces. A node that is killed leaves out what wasn't sealed; [`record`](Builder::record)
+    /// leaves out nothing. Both may be asked for.
+    ///
+    /// ```
+    /// # use masttomato::space::SegmentSize;
+    /// # use masttomato::{Node, Peers, SpaceId};
+    /// # let [one, two] = [1, 2].map(|number| SpaceId::new(number).expect("1 to 32"));
+    /// use masttomato::engine::Files;
+    ///
+    /// let files = Files::of_segments("chains", one, 1 << 20);
+    /// let node = Node::builder(one, Peers::none()).record_chain(SegmentSize::default(), files).start()?;
+    /// # drop(node);
+    /// # Ok::<(), Box<dyn std::error::Error>>(())
+    /// ```
+    pub fn record_chain(mut self, size: SegmentSize, sink: impl TraceSink + 'static) -> Builder {
+        self.chain = Some((size, Box::new(sink)));
+        self
+    }
+
     // Tests say which life it is.
     #[doc(hidden)]
     pub fn life(mut self, life: u64) -> Builder {
@@ -745,7 +768,8 @@ impl Builder {
             open_calls: self.open_calls,
         };
         let shared = Shared::new(space, waker, self.looks);
-        Ok(Parts { shared, net, settings, sink: self.sink, spawner: self.spawner, address })
+        let (sink, chain, spawner) = (self.sink, self.chain, self.spawner);
+        Ok(Parts { shared, net, settings, sink, chain, spawner, address })
     }
 }
 
@@ -754,6 +778,7 @@ struct Parts {
     net: Net,
     settings: Settings,
     sink: Option<Box<dyn TraceSink>>,
+    chain: Option<(SegmentSize, Box<dyn TraceSink>)>,
     spawner: Option<Arc<dyn Spawn>>,
     address: Option<SocketAddr>,
 }
@@ -764,6 +789,9 @@ impl Parts {
         let mut engine = Engine::new(self.settings, Duration::ZERO).map_err(NodeError::Space)?;
         if let Some(sink) = self.sink {
             engine.record(sink);
+        }
+        if let Some((size, sink)) = self.chain {
+            engine.record_chain(size, sink);
         }
         let core = Core::new(engine, self.shared.clone(), pool, self.spawner, started);
         Ok(Driver::new(core, self.net, self.shared, started))
@@ -1130,6 +1158,24 @@ impl Node {
     /// Or the node has stopped.
     pub fn open(&self, peer: SpaceId) -> Result<u32, NodeError> {
         open(&self.inner.shared, peer)
+    }
+
+    /// How it stands: its live objects, its sessions and what went each way on them, its oldest job, and what it
+    /// counted. The report's text is for Prometheus to read.
+    ///
+    /// ```
+    /// # use masttomato::{Node, Peers, SpaceId};
+    /// # fn main() -> Result<(), Box<dyn std::error::Error>> {
+    /// let node = Node::builder(SpaceId::try_from(1)?, Peers::none()).start()?;
+    /// println!("{}", node.report()?);
+    /// # Ok(())
+    /// # }
+    /// ```
+    ///
+    /// # Errors
+    /// Where the node has stopped.
+    pub fn report(&self) -> Result<Report, NodeError> {
+        ask(&self.inner.shared, Core::report)
     }
 
     /// What was counted; nothing where the node has stopped.

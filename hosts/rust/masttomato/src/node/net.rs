@@ -1,6 +1,7 @@
 //! A node's connections: who is connected to, who connects, and what goes over them.
 
 use super::peers::Line;
+use super::spans;
 use crate::engine::{Engine, HELLO, Hello, Why};
 use crate::space::SpaceId;
 use mio::net::{TcpListener, TcpStream};
@@ -177,7 +178,8 @@ impl Net {
             Ok(count) => {
                 // The system says again when more comes behind a piece that isn't full.
                 link.is_readable = count == PIECE;
-                if engine.bytes(peer, &self.piece[..count], now).is_err() {
+                if let Err(how) = engine.bytes(peer, &self.piece[..count], now) {
+                    spans::misbehaved(self.hello.space, peer, how);
                     self.shunned.insert(peer, now + SHUNNED);
                     self.drop_link(peer, engine, now);
                 }
@@ -361,6 +363,7 @@ impl Net {
             }
             Err(why) => {
                 let peer = peer.ok().map(|peer| peer.space);
+                spans::not_connected(self.hello.space, peer, why);
                 if let Some(space) = peer.filter(|_| pending.dial.is_some()) {
                     engine.refused(space, why);
                 }

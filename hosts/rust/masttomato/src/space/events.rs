@@ -1,10 +1,12 @@
 //! A space: the proved one of the static library, behind safe methods.
 
 use super::answers::{ActResult, Arrived, CallResult, ReplyFate, SettledItem, Status};
+use super::chain::{Chain, SegmentSize};
 use super::event::{Answer, Event, Job, Outcome};
 use super::frame::{Frame, FrameFault, Frames};
 use super::names::{CallNo, ItemNo, JobNo, Limits, Reason, Reference, SpaceId};
 use super::refusal::{Refusal, SpaceError};
+use super::tally::Tally;
 use super::trace::Trace;
 use super::value::Value;
 use masttomato_sys::{Handle, Told};
@@ -80,6 +82,7 @@ pub struct Space {
     spaces: SpaceId,
     limits: Limits,
     trace: Option<Trace>,
+    chain: Option<Chain>,
     // Where bytes of the library are copied to.
     room: Vec<u8>,
 }
@@ -283,7 +286,7 @@ impl Space {
     pub fn new(id: SpaceId, spaces: SpaceId, limits: Limits) -> Result<Space, SpaceError> {
         let (window, retry) = (limits.window().into(), limits.retry().into());
         let handle = Handle::new(id.get(), spaces.get(), window, retry).map_err(error_of)?;
-        Ok(Space { handle, id, spaces, limits, trace: None, room: vec![0; 1024] })
+        Ok(Space { handle, id, spaces, limits, trace: None, chain: None, room: vec![0; 1024] })
     }
 
     /// The number of the space.
@@ -392,7 +395,88 @@ impl Space {
         self.trace.as_ref()
     }
 
-    /// The stamp of the trace's last entry, or what it was risen to since; 0 where none is kept.
+    /// From now on the space keeps a chain of what it is asked and answered: a trace in segments of so many entries, each
+    /// of which it seals by what it says of itself then. It is to be asked for before the first event, and may be
+    /// kept beside a trace.
+    ///
+    /// ```
+    /// # use masttomato::space::*;
+    /// # let [one, two] = [1, 2].map(|number| SpaceId::new(number).expect("1 to 32"));
+    /// # let mut space = Space::new(one, two, Limits::default())?;
+    /// space.keep_chain(SegmentSize::new(2).expect("1 to 65,536"));
+    /// let object = space.export()?;
+    /// space.dup(object)?;
+    /// space.dup(object)?;
+    /// space.seal();                                   // the last segment isn't full
+    /// let segments = "segment 1 entries 2\n\
+    ///                 1 export = exported 1.1\n\
+    ///                 2 dup 1.1 = ok\n\
+    ///                 seal 2 live 1 peer 2 session 1 sent 0 acted 0 open\n\
+    ///                 segment 2 entries 1\n\
+    ///                 3 dup 1.1 = ok\n\
+    ///                 seal 3 live 1 peer 2 session 1 sent 0 acted 0 open\n";
+    /// let text = Chain::first_line(one, two, Limits::default(), 2) + segments;
+    /// assert_eq!(space.chain().map(Chain::to_string), Some(text));
+    /// # Ok::<(), SpaceError>(())
+    /// ```
+    pub fn keep_chain(&mut self, size: SegmentSize) {
+        self.chain = Some(Chain::new(self.id, self.spaces, self.limits, size));
+    }
+
+    /// Seals what of the chain isn't sealed yet, where one is kept: before its text is asked for, say.
+    ///
+    /// ```
+    /// # use masttomato::space::*;
+    /// # let [one, two] = [1, 2].map(|number| SpaceId::new(number).expect("1 to 32"));
+    /// # let mut space = Space::new(one, two, Limits::default())?;
+    /// space.keep_chain(SegmentSize::default());
+    /// let _nothing = space.clean();
+    /// space.seal();
+    /// space.seal();                                   // there is nothing to seal
+    /// assert_eq!(space.chain().map(Chain::segments), Some(1));
+    /// # Ok::<(), SpaceError>(())
+    /// ```
+    pub fn seal(&mut self) {
+        let Some(mut chain) = self.chain.take() else { return };
+        let tallies = self.peers().filter_map(|peer| Some((peer, self.tally(peer)?)));
+        chain.seal(self.live(), tallies);
+        self.chain = Some(chain);
+    }
+
+    /// Takes the lines of the chain's sealed segments that weren't taken yet, so that they need no more memory: none
+    /// where no chain is kept.
+    ///
+    /// ```
+    /// # use masttomato::space::*;
+    /// # let [one, two] = [1, 2].map(|number| SpaceId::new(number).expect("1 to 32"));
+    /// # let mut space = Space::new(one, two, Limits::default())?;
+    /// space.keep_chain(SegmentSize::default());
+    /// let _nothing = space.clean();
+    /// assert_eq!(space.take_segments(), "");
+    /// space.seal();
+    /// assert_eq!(space.take_segments().lines().count(), 3);
+    /// # Ok::<(), SpaceError>(())
+    /// ```
+    pub fn take_segments(&mut self) -> String {
+        self.chain.as_mut().map(Chain::take_segments).unwrap_or_default()
+    }
+
+    /// The chain, where one is kept.
+    ///
+    /// ```
+    /// # use masttomato::space::*;
+    /// # let [one, two] = [1, 2].map(|number| SpaceId::new(number).expect("1 to 32"));
+    /// # let mut space = Space::new(one, two, Limits::default())?;
+    /// assert!(space.chain().is_none());
+    /// space.keep_chain(SegmentSize::default());
+    /// assert_eq!(space.chain().map(Chain::segments), Some(0));
+    /// # Ok::<(), SpaceError>(())
+    /// ```
+    pub fn chain(&self) -> Option<&Chain> {
+        self.chain.as_ref()
+    }
+
+    /// The stamp of the last entry of a trace or a chain, or what it was risen to since; 0 where none is kept.
     ///
     /// ```
     /// # use masttomato::space::*;
@@ -404,10 +488,11 @@ impl Space {
     /// # Ok::<(), SpaceError>(())
     /// ```
     pub fn stamp(&self) -> u64 {
-        self.trace.as_ref().map_or(0, Trace::stamp)
+        let of_trace = self.trace.as_ref().map_or(0, Trace::stamp);
+        of_trace.max(self.chain.as_ref().map_or(0, Chain::stamp))
     }
 
-    /// The trace's next entry has a stamp above this one.
+    /// The next entry of a trace or a chain has a stamp above this one.
     ///
     /// ```
     /// # use masttomato::space::*;
@@ -422,6 +507,9 @@ impl Space {
     pub fn rise_to(&mut self, stamp: u64) {
         if let Some(trace) = &mut self.trace {
             trace.rise_to(stamp);
+        }
+        if let Some(chain) = &mut self.chain {
+            chain.rise_to(stamp);
         }
     }
 
@@ -1169,19 +1257,66 @@ impl Space {
         }
     }
 
-    // Where a trace is kept, what was asked and what came of it is its next entry; but not where
-    // memory was wanted.
+    /// What went each way on the session with a peer, and how it ended: none where the space is no peer.
+    ///
+    /// ```
+    /// # use masttomato::space::*;
+    /// # let [one, two] = [1, 2].map(|number| SpaceId::new(number).expect("1 to 32"));
+    /// # let mut space = Space::new(one, two, Limits::default())?;
+    /// space.call(two.agent(), 0, &Value::Unit)?;
+    /// let tally = Tally { session: 1, sent: 1, acted: 0, closed: None };
+    /// assert_eq!((space.tally(two), space.tally(one)), (Some(tally), None));
+    /// # Ok::<(), SpaceError>(())
+    /// ```
+    pub fn tally(&self, peer: SpaceId) -> Option<Tally> {
+        let tally = self.handle.tally(peer.get());
+        (tally.session > 0).then(|| Tally {
+            session: tally.session,
+            sent: tally.sent,
+            acted: tally.acted,
+            closed: ending_of(tally.closed),
+        })
+    }
+
+    /// How many objects of this space are live: exported and not withdrawn. The agent isn't counted.
+    ///
+    /// ```
+    /// # use masttomato::space::*;
+    /// # let [one, two] = [1, 2].map(|number| SpaceId::new(number).expect("1 to 32"));
+    /// # let mut space = Space::new(one, two, Limits::default())?;
+    /// space.export()?;
+    /// assert_eq!(space.live(), 1);
+    /// # Ok::<(), SpaceError>(())
+    /// ```
+    pub fn live(&self) -> u64 {
+        self.handle.live()
+    }
+
+    // Where a trace or a chain is kept, what was asked and what came of it is its next entry; but not where
+    // memory was wanted. A segment that is full is sealed at once.
     fn noted<T: Clone>(
         &mut self,
         result: Result<T, SpaceError>,
         event: impl FnOnce() -> Event,
         answer: impl FnOnce(T) -> Answer,
     ) -> Result<T, SpaceError> {
+        if self.trace.is_none() && self.chain.is_none() {
+            return result;
+        }
+        let noted = match result.clone() {
+            Ok(given) => Ok(answer(given)),
+            Err(SpaceError::Refused(refusal)) => Err(refusal),
+            Err(SpaceError::OutOfMemory) => return result,
+        };
+        self.rise_to(self.stamp());
+        let event = event();
         if let Some(trace) = &mut self.trace {
-            match result.clone() {
-                Ok(given) => trace.push(&event(), &Ok(answer(given))),
-                Err(SpaceError::Refused(refusal)) => trace.push(&event(), &Err(refusal)),
-                Err(SpaceError::OutOfMemory) => {}
+            trace.push(&event, &noted);
+        }
+        if let Some(chain) = &mut self.chain {
+            chain.push(&event, &noted);
+            if chain.is_full() {
+                self.seal();
             }
         }
         result
@@ -1275,6 +1410,12 @@ fn reason_of(told: Told) -> Reason {
         .ok()
         .and_then(Reason::from_number)
         .unwrap_or_else(|| unknown("reason", told.kind))
+}
+
+// Why an end closed, or none where it is open.
+fn ending_of(number: u32) -> Option<Reason> {
+    let reason = u8::try_from(number).ok().and_then(Reason::from_number);
+    (number > 0).then(|| reason.unwrap_or_else(|| unknown("reason", number)))
 }
 
 fn number_of_session(told: Told) -> u32 {

@@ -30,6 +30,7 @@
 //! ```
 
 mod answers;
+mod chain;
 mod event;
 mod events;
 mod frame;
@@ -38,15 +39,18 @@ mod names;
 mod reading;
 mod refusal;
 pub mod script;
+mod tally;
 mod trace;
 mod value;
 
 pub use answers::{ActResult, Arrived, CallResult, ReplyFate, SettledItem, Status};
+pub use chain::{Chain, SegmentSize};
 pub use event::{Answer, Event, Job, Outcome};
 pub use events::{ArriveError, Due, Space, StreamError, Work};
 pub use frame::{Frame, FrameFault, FrameKind, Frames, FramesIter};
 pub use names::{CallNo, ItemNo, JobNo, Limits, NoSpace, Reason, Reference, SpaceId};
 pub use reading::NoText;
 pub use refusal::{Refusal, SpaceError, Use};
+pub use tally::Tally;
 pub use trace::Trace;
 pub use value::{PickleFault, Value};

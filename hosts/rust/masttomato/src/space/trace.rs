@@ -95,18 +95,10 @@ impl Trace {
     /// assert_eq!(trace.lines(), "1 export = exported 1.1\n");
     /// # Ok::<(), NoSpace>(())
     /// ```
-    ///
-    /// # Panics
-    /// Never, but that a `String` may want memory.
     pub fn push(&mut self, event: &Event, result: &Result<Answer, Refusal>) {
         self.count += 1;
         self.stamp += 1;
-        let (stamp, lines) = (self.stamp, &mut self.lines);
-        match result {
-            Ok(answer) => writeln!(lines, "{stamp} {event} = {answer}"),
-            Err(refusal) => writeln!(lines, "{stamp} {event} = {}", refusal.name()),
-        }
-        .expect("a String takes any text");
+        put_entry(&mut self.lines, self.stamp, event, result);
     }
 
     /// How many entries there are.
@@ -166,6 +158,20 @@ impl Trace {
         let (window, retry) = (limits.window(), limits.retry());
         format!("trace2 {space} of {spaces} window {window} retry {retry} entries {count}\n")
     }
+}
+
+/// Puts the line of an entry behind others.
+pub(super) fn put_entry(
+    lines: &mut String,
+    stamp: u64,
+    event: &Event,
+    result: &Result<Answer, Refusal>,
+) {
+    match result {
+        Ok(answer) => writeln!(lines, "{stamp} {event} = {answer}"),
+        Err(refusal) => writeln!(lines, "{stamp} {event} = {}", refusal.name()),
+    }
+    .expect("a String takes any text");
 }
 
 impl fmt::Display for Trace {

@@ -9,8 +9,10 @@ mod things;
 
 use common::checking::fault_of;
 use common::nobj;
-use masttomato::engine::{Answered, HELLO, Why};
-use masttomato::space::{Limits, Outcome, Reference, Refusal, SpaceError, Status, Trace, Value};
+use masttomato::engine::{Answered, Files, HELLO, Why};
+use masttomato::space::{
+    Limits, Outcome, Reference, Refusal, SegmentSize, SpaceError, Status, Trace, Value,
+};
 use masttomato::{CallError, Fault, Node, NodeError, Peers, Reason, Remote, Run, Session};
 use plain::Plain;
 use proxy::Proxy;
@@ -195,6 +197,75 @@ fn a_method_that_blocks_takes_a_worker_and_nothing_else() {
     eventually("their answers were taken", || two.counts().calls_open == 0);
 }
 
+// What each end says of its session is what the other says of it, once all that was sent has been acted on.
+#[test]
+fn a_report_says_what_a_node_has() {
+    let (one, two, counter, _alive) = pair();
+    for by in 1..=20 {
+        assert_eq!(counter.add(by).wait(), Ok(by * (by + 1) / 2));
+    }
+    let sessions = || {
+        let of = |node: &Node, peer| {
+            let session = node.report().expect("it runs").sessions[0];
+            assert_eq!((session.peer, session.session), (id(peer), Session::Open));
+            session
+        };
+        (of(&one, 2), of(&two, 1))
+    };
+    eventually("both say the same", || {
+        let (of_one, of_two) = sessions();
+        (of_one.tally.sent, of_two.tally.sent) == (of_two.tally.acted, of_one.tally.acted)
+            && (of_one.unacknowledged, of_two.unacknowledged) == (0, 0)
+    });
+    let (of_one, of_two) = sessions();
+    assert_eq!((of_one.tally.session, of_one.tally.closed), (1, None));
+    // 21 calls of the second, and what its reference to the counter took.
+    assert!(of_two.tally.sent > 21 && of_one.tally.sent > 21, "{of_one:?}, {of_two:?}");
+    assert_eq!((one.report().expect("it runs").live, two.report().expect("it runs").live), (1, 0));
+
+    let gate = Gate::default();
+    let maker = one.export::<dyn Trouble>(Box::new(Maker(gate.clone()))).expect("room");
+    one.bind("trouble", &maker).expect("a name");
+    let maker: Remote<dyn Trouble> = two.lookup(id(1), "trouble").wait().expect("a maker");
+    let waits = maker.waits();
+    eventually("a job is long there", || {
+        let report = one.report().expect("it runs");
+        report.jobs == 1 && report.oldest_job.is_some_and(|time| time > Duration::from_millis(20))
+    });
+    let text = one.report().expect("it runs").to_string();
+    for line in
+        ["masttomato_jobs{space=\"1\"} 1", "masttomato_session_up{space=\"1\",peer=\"2\"} 1"]
+    {
+        assert!(text.lines().any(|said| said == line), "{text}");
+    }
+    assert_is_prometheus(&text);
+    gate.open();
+    assert_eq!(waits.wait(), Ok(1));
+    two.close(id(1));
+    let closed = two.report().expect("it runs").sessions[0];
+    assert_eq!((closed.tally.closed, closed.unacknowledged), (Some(Reason::Asked), 0));
+    assert_eq!(closed.tally.session, 1);
+}
+
+// Each metric has its help and its kind before its values, once, and each value is a number.
+fn assert_is_prometheus(text: &str) {
+    let mut known: Vec<String> = Vec::new();
+    for line in text.lines() {
+        if let Some(rest) = line.strip_prefix("# TYPE ") {
+            let (name, kind) = rest.split_once(' ').expect("a kind");
+            assert_eq!(name.ends_with("_total"), kind == "counter", "{line}");
+            assert!(!known.contains(&name.to_string()), "{line}");
+            known.push(name.into());
+        } else if !line.starts_with("# HELP ") {
+            let (name, rest) = line.split_once('{').expect("labels");
+            let (_, value) = rest.split_once("} ").expect("a value");
+            assert_eq!(known.last().map(String::as_str), Some(name), "{line}");
+            assert!(value.parse::<f64>().is_ok(), "{line}");
+        }
+    }
+    assert!(known.len() > 20);
+}
+
 // A reply that nobody waits for brings a reference: it is given back.
 #[test]
 fn what_an_abandoned_call_brings_is_given_back() {
@@ -354,6 +425,44 @@ fn the_traces_of_nodes_are_a_run() {
     assert_eq!(fault_of(&traces), None);
     if let Some(said) = nobj("check", traces.concat().as_bytes()) {
         assert!(said.ends_with("\nverdict yes\n"), "{said}");
+    }
+}
+
+// The same of chains that they leave in files, whose last segments are sealed as they end. One whose seal says another
+// number is found.
+#[test]
+fn the_chains_of_nodes_are_a_run() {
+    let folder = std::env::temp_dir().join(format!("masttomato-chains-{}", std::process::id()));
+    std::fs::create_dir_all(&folder).expect("a folder");
+    let place = AtomicU64::new(0);
+    let record = |builder: masttomato::Builder| {
+        let number = place.fetch_add(1, SeqCst) as u16 + 1;
+        let size = SegmentSize::new(10 * u32::from(number)).expect("a size");
+        builder.record_chain(size, Files::of_segments(&folder, id(number), 1 << 12))
+    };
+    let [one, two] = nodes(2, record).try_into().expect("two");
+    let (counter, _alive) = tally(&one);
+    one.bind("counter", &counter).expect("a name");
+    let counter: Remote<dyn Counter> = two.lookup(id(1), "counter").wait().expect("a counter");
+    for total in 1..=50 {
+        assert_eq!(counter.add(1).wait(), Ok(total));
+    }
+    two.close(id(1));
+    drop((counter, one, two));
+    let chains: Vec<String> = (1..=2)
+        .map(|space| Files::join_chain(&folder, id(space), id(2)).expect("a chain"))
+        .collect();
+    std::fs::remove_dir_all(&folder).expect("the folder");
+    let last: Vec<&str> = chains.iter().filter_map(|chain| chain.lines().last()).collect();
+    for (seal, session) in last.iter().zip([" peer 2 session 1 sent ", " peer 1 session 1 sent "]) {
+        assert!(seal.starts_with("seal ") && seal.contains(session), "{seal}");
+        assert!(seal.contains(" closed "), "{seal}");
+    }
+    if let Some(said) = nobj("check", chains.concat().as_bytes()) {
+        assert!(said.ends_with("\nverdict yes\n"), "{said}");
+        let spoilt = chains.concat().replacen(" live 1 ", " live 2 ", 1);
+        let said = nobj("check", spoilt.as_bytes()).expect("it is there");
+        assert!(said.ends_with("C5 1 1\n"), "{said}");
     }
 }
 

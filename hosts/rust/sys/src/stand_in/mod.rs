@@ -9,7 +9,7 @@ mod session;
 mod space;
 mod table;
 
-use crate::{Answered, Told, Work};
+use crate::{Answered, Tally, Told, Work};
 use frame::Feed;
 use pickle::Pickle;
 use space::{Space, refusal};
@@ -567,5 +567,36 @@ impl Handle {
     /// ```
     pub fn due(&self, peer: u16) -> u32 {
         if self.space.is_peer(peer) { self.space.session(peer).due() } else { 0 }
+    }
+
+    /// What went each way on the session with a peer.
+    ///
+    /// ```
+    /// # use masttomato_sys::stand_in::Handle;
+    /// # let mut handle = Handle::new(1, 2, 8, 16)?;
+    /// handle.close(2);
+    /// handle.open(2);
+    /// handle.call(2, 0, 0, &[0]);
+    /// let tally = handle.tally(2);
+    /// assert_eq!((tally.session, tally.closed, tally.sent, tally.acted), (2, 0, 1, 0));
+    /// handle.close(2);
+    /// assert_eq!((handle.tally(2).closed, handle.tally(2).sent), (1, 1));
+    /// # Ok::<(), u32>(())
+    /// ```
+    pub fn tally(&self, peer: u16) -> Tally {
+        if self.space.is_peer(peer) { self.space.session(peer).tally() } else { Tally::default() }
+    }
+
+    /// How many objects are live.
+    ///
+    /// ```
+    /// # use masttomato_sys::stand_in::Handle;
+    /// # let mut handle = Handle::new(1, 2, 8, 16)?;
+    /// handle.export();
+    /// assert_eq!(handle.live(), 1);
+    /// # Ok::<(), u32>(())
+    /// ```
+    pub fn live(&self) -> u64 {
+        self.space.live()
     }
 }

@@ -1,6 +1,7 @@
 //! One end of a session.
 
 use super::frame::{ACK, CLOSE, DATA, Frame};
+use crate::Tally;
 use std::cmp::Ordering;
 use std::collections::VecDeque;
 
@@ -34,6 +35,8 @@ pub(super) struct Session {
     transmitted: u64,
     inbox: VecDeque<Vec<u8>>,
     accepted: u64,
+    // Of those, how many were acted on.
+    acted: u64,
     // What was kept at each number in reach, from the next one on.
     early: VecDeque<Option<Vec<u8>>>,
     data_came: bool,
@@ -62,6 +65,7 @@ impl Session {
             transmitted: 0,
             inbox: VecDeque::new(),
             accepted: 0,
+            acted: 0,
             early: vec![None; REACH].into(),
             data_came: false,
             ticks: 0,
@@ -114,8 +118,15 @@ impl Session {
         Some((self.accepted + 1 - self.inbox.len() as u64, front))
     }
 
+    /// It was acted on.
     pub(super) fn take(&mut self) {
-        self.inbox.pop_front();
+        self.acted += u64::from(self.inbox.pop_front().is_some());
+    }
+
+    /// What went each way, and how it ended.
+    pub(super) fn tally(&self) -> Tally {
+        let closed = self.closed.map_or(0, u32::from);
+        Tally { session: self.number, closed, sent: self.handed(), acted: self.acted }
     }
 
     // The greatest number that a transmit would give.

@@ -648,6 +648,11 @@ impl Space {
         self.table.is_listed(index, client)
     }
 
+    /// How many objects are live.
+    pub(super) fn live(&self) -> u64 {
+        self.table.live()
+    }
+
     pub(super) fn reply_ready(&self, call: u64) -> bool {
         !matches!(self.calls.get(&call), Some(Call::Out { .. }))
     }

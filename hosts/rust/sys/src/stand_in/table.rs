@@ -79,6 +79,10 @@ impl Table {
         self.live.contains_key(&index)
     }
 
+    pub(super) fn live(&self) -> u64 {
+        self.live.len() as u64
+    }
+
     pub(super) fn was_exported(&self, index: u64) -> bool {
         (1..=self.exported).contains(&index)
     }

@@ -2,10 +2,11 @@ use Rattle.std.proofs.Common.{◌≡◌, ℕ, ◌-◌, ◌∷◌, ◌==◌, true
 use lib.ListN.{set}
 use Rattle.nob_model_session.specs.declared.entry.Arrived.TheVariants as arrived
 use Rattle.nob_model_session.specs.declared.entry.EndEntry.TheVariants as ends
-use Rattle.nob_model_session.specs.Right.{IsRight}
+use Rattle.nob_model_session.specs.Right.{IsRight, taken_by}
 use Rattle.nob_session.specs.Answers.{Answered, arrived_of}
 use Rattle.nob_session.specs.Calls.{EndsBy, evidence_of}
 use Rattle.nob_session.specs.Stands as session
+use Rattle.nob_session.proofs.Alike.{called_onward, arrives_onward}
 use Rattle.nob_model_types.specs.Sessions.{is_peer}
 use Rattle.nob_model_types.specs.declared.deed.Cause.TheVariants as causes
 use Rattle.nob_model_types.specs.declared.deed.Deed.TheVariants as did
@@ -38,7 +39,7 @@ unreachable-requires c =
     let peer : is_peer c.args.self.now.here.space c.args.self.now.here.n c.args.frame.now.from ≡ true = sym c.is_peer.ensures ∙ c.if-not-is_peer.false in
     let is = at_peer c.args.self.now.sessions.items c.place.result c.args.frame.now.from c.index_mut.result.now c.place.ensures.value c.index_mut.ensures.value in
     let there = end_there c.args.self.now.here.space c.args.self.now.here.n c.requires.0 c.args.self.now.sessions.items (history_of c.args.self.now.here.space c.args.self.now.here.n c.requires.1) c.args.frame.now.from c.index_mut.result.now c.requires.2.ends peer is in
-    never_strange c.args.self.now.here.space c.args.frame.now (calls_at c.args.frame.now.from (history_of c.args.self.now.here.space c.args.self.now.here.n c.requires.1)) c.in-Err-Refused.field-0-0 here (subst (λ e. Answered arrived_of (Err e) (λ answer. IsRight c.args.self.now.here.space c.args.frame.now.from c.requires.0 (ends.Arrive c.args.frame.now answer) (calls_at c.args.frame.now.from (history_of c.args.self.now.here.space c.args.self.now.here.n c.requires.1)) × session.Stands c.args.self.now.here.space c.args.frame.now.from c.requires.0 c.arrive.new.self.end (ends.Arrive c.args.frame.now answer ∷ (calls_at c.args.frame.now.from (history_of c.args.self.now.here.space c.args.self.now.here.n c.requires.1))))) c.in-Err-Refused.field-0-is ((c.in-Err-Refused.ensures {u = tt}).answer c.args.self.now.here.space c.args.frame.now.from c.requires.0 (calls_at c.args.frame.now.from (history_of c.args.self.now.here.space c.args.self.now.here.n c.requires.1)) there.2)).0
+    never_strange c.args.self.now.here.space c.args.frame.now (calls_at c.args.frame.now.from (history_of c.args.self.now.here.space c.args.self.now.here.n c.requires.1)) c.in-Err-Refused.field-0-0 here (called_onward (ends.Arrive c.args.frame.now (Err c.in-Err-Refused.field-0-0)) there.2 (λ M stood. subst (λ e. Answered arrived_of (Err e) (λ answer. IsRight c.args.self.now.here.space c.args.frame.now.from c.requires.0 (ends.Arrive c.args.frame.now answer) M × session.Stands c.args.self.now.here.space c.args.frame.now.from c.requires.0 c.arrive.new.self.end (ends.Arrive c.args.frame.now answer ∷ M))) c.in-Err-Refused.field-0-is ((c.in-Err-Refused.ensures {u = tt}).answer c.args.self.now.here.space c.args.frame.now.from c.requires.0 M stood))).0
 
 pub returns-in-Ok-Took-clause-answer : goal.returns-in-Ok-Took-clause-answer
 returns-in-Ok-Took-clause-answer c limits D stands =
@@ -46,7 +47,7 @@ returns-in-Ok-Took-clause-answer c limits D stands =
     let peer : is_peer c.args.self.now.here.space c.args.self.now.here.n c.args.frame.now.from ≡ true = sym c.is_peer.ensures ∙ c.if-not-is_peer.false in
     let is = at_peer c.args.self.now.sessions.items c.place.result c.args.frame.now.from c.index_mut.result.now c.place.ensures.value c.index_mut.ensures.value in
     let there = end_there c.args.self.now.here.space c.args.self.now.here.n limits c.args.self.now.sessions.items (history_of c.args.self.now.here.space c.args.self.now.here.n D) c.args.frame.now.from c.index_mut.result.now stands.ends peer is in
-    arrive_told _ _ _ _ here peer ∙ ap arrival_of (sym (subst (λ a. IsRight c.args.self.now.here.space c.args.frame.now.from limits (ends.Arrive c.args.frame.now (Ok (arrived_of a))) (calls_at c.args.frame.now.from (history_of c.args.self.now.here.space c.args.self.now.here.n D)) × session.Stands c.args.self.now.here.space c.args.frame.now.from limits c.arrive.new.self.end (ends.Arrive c.args.frame.now (Ok (arrived_of a)) ∷ (calls_at c.args.frame.now.from (history_of c.args.self.now.here.space c.args.self.now.here.n D)))) c.in-Ok-Took.field-0-is ((c.in-Ok-Took.ensures {u = tt}).answer c.args.self.now.here.space c.args.frame.now.from limits (calls_at c.args.frame.now.from (history_of c.args.self.now.here.space c.args.self.now.here.n D)) there.2)).0)
+    arrive_told _ _ _ _ here peer ∙ ap arrival_of (sym (called_onward (ends.Arrive c.args.frame.now (Ok (arrived.Took c.in-Ok-Took.count))) there.2 (λ M stood. subst (λ a. IsRight c.args.self.now.here.space c.args.frame.now.from limits (ends.Arrive c.args.frame.now (Ok (arrived_of a))) M × session.Stands c.args.self.now.here.space c.args.frame.now.from limits c.arrive.new.self.end (ends.Arrive c.args.frame.now (Ok (arrived_of a)) ∷ M)) c.in-Ok-Took.field-0-is ((c.in-Ok-Took.ensures {u = tt}).answer c.args.self.now.here.space c.args.frame.now.from limits M stood))).0)
 
 pub returns-in-Ok-Took-clause-stands : goal.returns-in-Ok-Took-clause-stands
 returns-in-Ok-Took-clause-stands c limits D stands =
@@ -57,7 +58,7 @@ returns-in-Ok-Took-clause-stands c limits D stands =
     subst (λ (k : ℕ). Stands c.args.self.now.here.space c.args.self.now.here.n limits (with_sessions (set c.args.self.now.sessions.items k c.arrive.new.self) (state_of c.args.self.now)) (did.Arrive c.args.frame.now c.in-Ok-Took.count ∷ D)) (sym c.place.ensures.value)
     (called_stands stands c.args.frame.now.from c.index_mut.result.now c.arrive.new.self peer is (did.Arrive c.args.frame.now c.in-Ok-Took.count) (ends.Arrive c.args.frame.now (Ok (arrived.Took c.in-Ok-Took.count))) (arrive_is_still c.args.self.now.here.space c.args.self.now.here.n c.args.frame.now c.in-Ok-Took.count D) (arrive_calls c.args.self.now.here.space c.args.self.now.here.n c.args.frame.now c.in-Ok-Took.count D)
     (arrive_is c.args.self.now.here.space c.args.self.now.here.n limits D c.args.frame.now c.in-Ok-Took.count (returns-in-Ok-Took-clause-answer c limits D stands))
-    (subst (λ a. IsRight c.args.self.now.here.space c.args.frame.now.from limits (ends.Arrive c.args.frame.now (Ok (arrived_of a))) (calls_at c.args.frame.now.from (history_of c.args.self.now.here.space c.args.self.now.here.n D)) × session.Stands c.args.self.now.here.space c.args.frame.now.from limits c.arrive.new.self.end (ends.Arrive c.args.frame.now (Ok (arrived_of a)) ∷ (calls_at c.args.frame.now.from (history_of c.args.self.now.here.space c.args.self.now.here.n D)))) c.in-Ok-Took.field-0-is ((c.in-Ok-Took.ensures {u = tt}).answer c.args.self.now.here.space c.args.frame.now.from limits (calls_at c.args.frame.now.from (history_of c.args.self.now.here.space c.args.self.now.here.n D)) there.2)).1)
+    (called_onward (ends.Arrive c.args.frame.now (Ok (arrived.Took c.in-Ok-Took.count))) there.2 (λ M stood. subst (λ a. IsRight c.args.self.now.here.space c.args.frame.now.from limits (ends.Arrive c.args.frame.now (Ok (arrived_of a))) M × session.Stands c.args.self.now.here.space c.args.frame.now.from limits c.arrive.new.self.end (ends.Arrive c.args.frame.now (Ok (arrived_of a)) ∷ M)) c.in-Ok-Took.field-0-is ((c.in-Ok-Took.ensures {u = tt}).answer c.args.self.now.here.space c.args.frame.now.from limits M stood))).1)
 
 pub returns-in-Ok-Closed-clause-answer : goal.returns-in-Ok-Closed-clause-answer
 returns-in-Ok-Closed-clause-answer c limits D stands =
@@ -65,7 +66,7 @@ returns-in-Ok-Closed-clause-answer c limits D stands =
     let peer : is_peer c.args.self.now.here.space c.args.self.now.here.n c.args.frame.now.from ≡ true = sym c.is_peer.ensures ∙ c.if-not-is_peer.false in
     let is = at_peer c.args.self.now.sessions.items c.place.result c.args.frame.now.from c.index_mut.result.now c.place.ensures.value c.index_mut.ensures.value in
     let there = end_there c.args.self.now.here.space c.args.self.now.here.n limits c.args.self.now.sessions.items (history_of c.args.self.now.here.space c.args.self.now.here.n D) c.args.frame.now.from c.index_mut.result.now stands.ends peer is in
-    arrive_told _ _ _ _ here peer ∙ ap arrival_of (sym (subst (λ a. IsRight c.args.self.now.here.space c.args.frame.now.from limits (ends.Arrive c.args.frame.now (Ok (arrived_of a))) (calls_at c.args.frame.now.from (history_of c.args.self.now.here.space c.args.self.now.here.n D)) × session.Stands c.args.self.now.here.space c.args.frame.now.from limits c.arrive.new.self.end (ends.Arrive c.args.frame.now (Ok (arrived_of a)) ∷ (calls_at c.args.frame.now.from (history_of c.args.self.now.here.space c.args.self.now.here.n D)))) c.in-Ok-Closed.field-0-is ((c.in-Ok-Closed.ensures {u = tt}).answer c.args.self.now.here.space c.args.frame.now.from limits (calls_at c.args.frame.now.from (history_of c.args.self.now.here.space c.args.self.now.here.n D)) there.2)).0) ∙ ap (λ reason. Ok (answers.Closed reason)) (sym c.reason.ensures)
+    arrive_told _ _ _ _ here peer ∙ ap arrival_of (sym (called_onward (ends.Arrive c.args.frame.now (Ok (arrived.Closed c.in-Ok-Closed.closed))) there.2 (λ M stood. subst (λ a. IsRight c.args.self.now.here.space c.args.frame.now.from limits (ends.Arrive c.args.frame.now (Ok (arrived_of a))) M × session.Stands c.args.self.now.here.space c.args.frame.now.from limits c.arrive.new.self.end (ends.Arrive c.args.frame.now (Ok (arrived_of a)) ∷ M)) c.in-Ok-Closed.field-0-is ((c.in-Ok-Closed.ensures {u = tt}).answer c.args.self.now.here.space c.args.frame.now.from limits M stood))).0) ∙ ap (λ reason. Ok (answers.Closed reason)) (sym c.reason.ensures)
 
 pub returns-in-Ok-Closed-clause-stands : goal.returns-in-Ok-Closed-clause-stands
 returns-in-Ok-Closed-clause-stands c limits D stands =
@@ -74,7 +75,7 @@ returns-in-Ok-Closed-clause-stands c limits D stands =
     let is = at_peer c.args.self.now.sessions.items c.place.result c.args.frame.now.from c.index_mut.result.now c.place.ensures.value c.index_mut.ensures.value in
     same_space c.close_down.new.self.here c.args.self.now.here c.close_down.ensures.here (ended_stands stands c.args.frame.now.from c.reason.result (causes.Frame c.args.frame.now) (λ e. ends.Arrive c.args.frame.now (Ok (arrived.Closed e))) refl c.index_mut.result.now c.arrive.new.self (state_of c.close_down.new.self) c.in-Ok-Closed.closed peer is
     (sym c.reason.ensures) (subst (λ a. EndsBy (session.seeing c.args.frame.now.session c.index_mut.result.now.end) c.arrive.new.self.end (evidence_of a)) c.in-Ok-Closed.field-0-is (c.in-Ok-Closed.ensures {u = tt}).ends).1
-    (λ before. (subst (λ a. IsRight c.args.self.now.here.space c.args.frame.now.from limits (ends.Arrive c.args.frame.now (Ok (arrived_of a))) (calls_at c.args.frame.now.from (history_of c.args.self.now.here.space c.args.self.now.here.n D)) × session.Stands c.args.self.now.here.space c.args.frame.now.from limits c.arrive.new.self.end (ends.Arrive c.args.frame.now (Ok (arrived_of a)) ∷ (calls_at c.args.frame.now.from (history_of c.args.self.now.here.space c.args.self.now.here.n D)))) c.in-Ok-Closed.field-0-is ((c.in-Ok-Closed.ensures {u = tt}).answer c.args.self.now.here.space c.args.frame.now.from limits (calls_at c.args.frame.now.from (history_of c.args.self.now.here.space c.args.self.now.here.n D)) before)).1)
+    (λ before. (called_onward (ends.Arrive c.args.frame.now (Ok (arrived.Closed c.in-Ok-Closed.closed))) before (λ M stood. subst (λ a. IsRight c.args.self.now.here.space c.args.frame.now.from limits (ends.Arrive c.args.frame.now (Ok (arrived_of a))) M × session.Stands c.args.self.now.here.space c.args.frame.now.from limits c.arrive.new.self.end (ends.Arrive c.args.frame.now (Ok (arrived_of a)) ∷ M)) c.in-Ok-Closed.field-0-is ((c.in-Ok-Closed.ensures {u = tt}).answer c.args.self.now.here.space c.args.frame.now.from limits M stood))).1)
     (subst (λ (k : ℕ). ClosesDown c.args.self.now.here.space c.in-Ok-Closed.closed.peer (with_sessions (set c.args.self.now.sessions.items k c.arrive.new.self) (state_of c.args.self.now)) (state_of c.close_down.new.self)) c.place.ensures.value c.close_down.ensures.closes)
     (arrive_close_is c.args.self.now.here.space c.args.self.now.here.n limits D c.args.frame.now c.reason.result (returns-in-Ok-Closed-clause-answer c limits D stands)))
 
@@ -84,7 +85,7 @@ returns-in-Err-OutOfMemory-clause-answer c limits D stands =
     let peer : is_peer c.args.self.now.here.space c.args.self.now.here.n c.args.frame.now.from ≡ true = sym c.is_peer.ensures ∙ c.if-not-is_peer.false in
     let is = at_peer c.args.self.now.sessions.items c.place.result c.args.frame.now.from c.index_mut.result.now c.place.ensures.value c.index_mut.ensures.value in
     let there = end_there c.args.self.now.here.space c.args.self.now.here.n limits c.args.self.now.sessions.items (history_of c.args.self.now.here.space c.args.self.now.here.n D) c.args.frame.now.from c.index_mut.result.now stands.ends peer is in
-    subst IsOk (sym (arrive_told _ _ _ _ here peer ∙ ap arrival_of (((c.in-Err-OutOfMemory.ensures {u = tt}).memory_last c.args.self.now.here.space c.args.frame.now.from limits (calls_at c.args.frame.now.from (history_of c.args.self.now.here.space c.args.self.now.here.n D)) there.2 (ap (λ e. Err e) c.in-Err-OutOfMemory.field-0-is)).heard))) refl
+    subst IsOk (sym (arrive_told _ _ _ _ here peer ∙ ap arrival_of (arrives_onward c.args.frame.now (λ M. Ok (arrived.Took (taken_by c.args.frame.now M))) there.2 (λ M stood. ((c.in-Err-OutOfMemory.ensures {u = tt}).memory_last c.args.self.now.here.space c.args.frame.now.from limits M stood (ap (λ e. Err e) c.in-Err-OutOfMemory.field-0-is)).heard)))) refl
 
 pub returns-in-Err-OutOfMemory-clause-err : goal.returns-in-Err-OutOfMemory-clause-err
 returns-in-Err-OutOfMemory-clause-err c limits D stands =

@@ -1,13 +1,14 @@
-use Rattle.std.proofs.Common.{◌≡◌, ℕ, ◌+◌, ◌-◌, ◌∷◌, ◌++◌, [], List, Ok, Err, get_or, sym, ap, subst, ◌∙◌, arith}
+use Rattle.std.proofs.Common.{◌≡◌, ℕ, ◌+◌, ◌-◌, ◌∷◌, ◌++◌, [], List, Ok, Err, get_or, refl, sym, ap, subst, ◌∙◌, arith}
 use lib.ListN.{set}
 use Rattle.nob_item.specs.Judging.{Fails}
 use Rattle.nob_item.specs.Writing.{bytes_of}
 use Rattle.nob_item.specs.declared.item.Item.TheVariants as items
 use Rattle.nob_model_session.specs.declared.entry.Kind.TheVariants.{Limited}
+use Rattle.nob_model_session.specs.declared.entry.EndEntry.TheVariants as ends
 use Rattle.nob_session.specs.Stands.{End}
+use Rattle.nob_session.proofs.Alike.{onward_is, stepped_onward}
 use Rattle.nob_model_types.specs.declared.answer.Answer.TheVariants as answers
 use Rattle.nob_model_history.specs.Histories.{history_of}
-use Rattle.nob_model_history.specs.Ends.{calls_at}
 use Rattle.nob_model_acting.specs.Sending.{unless}
 use Rattle.nob_model_types.specs.declared.deed.Deed.TheVariants as did
 use Rattle.nob_model_work.specs.declared.work.OwnCall.{OwnCall}
@@ -76,7 +77,7 @@ send_pinned-requires-clause-new c =
     let judged = call_judged c.args.self.now.here.space c.args.self.now.here.n (state_of c.args.self.now) c.args.target.now c.args.value.now c.in_ok-refuse_call.ensures in
     let is : c.index_mut-session.result.now ≡ get_or c.args.self.now.sessions.items (c.args.target.now.owner - 1) c.index_mut-session.result.now = subst (λ k. c.index_mut-session.result.now ≡ get_or c.args.self.now.sessions.items k c.index_mut-session.result.now) c.place.ensures.value c.index_mut-session.ensures.value in
     let there = end_there c.args.self.now.here.space c.args.self.now.here.n c.requires.0 c.args.self.now.sessions.items (history_of c.args.self.now.here.space c.args.self.now.here.n c.requires.1) c.args.target.now.owner c.index_mut-session.result.now c.requires.2.ends judged.peer is in
-    next_unpinned c.args.target.now.owner (c.index_mut-session.result.now.end.handed + 1) c.requires.2 (ap (λ (end : End). end.handed + 1) there.2)
+    next_unpinned c.args.target.now.owner (c.index_mut-session.result.now.end.handed + 1) c.requires.2 (ap (λ (end : End). end.handed + 1) (onward_is there.2))
 
 pub returns-in_err-send_pinned-clause-err : goal.returns-in_err-send_pinned-clause-err
 returns-in_err-send_pinned-clause-err c = after_error _ c.from_residual-in_err-send_pinned.result (λ limits D stands.
@@ -138,7 +139,7 @@ returns-clause-stands c limits D stands =
     judged is
     c.in-Ok.payload.items c.in_ok-send_pinned.field-0 c.new-call.result c.in_ok-reps.reps.items c.push.new.self.calls
     c.new-call.ensures (c.in-Ok.ensures {u = tt}).exact sent.number
-    (λ before. sent.answer c.args.self.now.here.space c.args.target.now.owner limits (calls_at c.args.target.now.owner (history_of c.args.self.now.here.space c.args.self.now.here.n D)) before)
+    (λ before. stepped_onward (ends.Send c.in-Ok.payload.items Limited (Ok c.in_ok-send_pinned.field-0)) refl before (λ M stood. sent.answer c.args.self.now.here.space c.args.target.now.owner limits M stood))
     c.in_ok-reps.ensures (subst (λ (reps : List WireRep). AddsPins c.args.self.now.pins.bundles c.send_pinned.new.pins.bundles c.args.target.now.owner (c.index_mut-session.result.now.end.handed + 1) reps) c.as_slice.ensures.value sent.pins)
     (c.push.ensures.calls ∙ ap (λ (calls : List OwnCall). calls ++ record { call = c.new-call.result; to = c.args.target.now.owner; stage = stages.Sent } ∷ []) c.reserve_calls.ensures.calls))))
     c.keep_all.new.table c.keep_all.ensures.table.items

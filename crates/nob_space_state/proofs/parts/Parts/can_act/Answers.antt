@@ -1,11 +1,16 @@
 use Rattle.std.proofs.Common.{◌≡◌, ◌-◌, List, true, is_some, get_or, sym, ap, subst, ◌∙◌}
+use Rattle.nob_model_session.specs.declared.entry.EndEntry.TheVariants as ends
+use Rattle.nob_model_session.specs.Texts.{front_text}
 use Rattle.nob_session.specs.Stands.{Roomy}
+use Rattle.nob_session.proofs.Alike.{told_onward}
 use Rattle.nob_model_types.specs.Sessions.{is_peer}
-use Rattle.nob_model_history.specs.Ends.{calls_at}
 use Rattle.nob_model_history.specs.Histories.{history_of}
 use Rattle.nob_space_state.proofs.Ends.{at_peer, end_there}
-use Rattle.nob_space_state.proofs.Nexts.{mapped_some, act_there}
+use Rattle.nob_space_state.proofs.Nexts.{mapped_some, act_shut, act_there}
 use Rattle.nob_space_state.proofs.parts.Parts.can_act.Goals as goal
+
+pub returns-then-has_closed : goal.returns-then-has_closed
+returns-then-has_closed c limits D stands = act_shut stands c.args.peer (sym c.is_peer.ensures ∙ c.if-not-is_peer.false) (sym c.has_closed.ensures ∙ c.if-has_closed.true)
 
 pub returns-in-Some : goal.returns-in-Some
 returns-in-Some c limits D stands =
@@ -14,5 +19,5 @@ returns-in-Some c limits D stands =
     let is = at_peer c.args.self.now.sessions.items c.place.result c.args.peer c.in-Some.session.now c.place.ensures.value read in
     let there = end_there c.args.self.now.here.space c.args.self.now.here.n limits c.args.self.now.sessions.items (history_of c.args.self.now.here.space c.args.self.now.here.n D) c.args.peer c.in-Some.session.now stands.ends peer is in
     c.is_some.ensures ∙ mapped_some _ c.front.result
-    ∙ ap is_some (c.front.ensures.answer c.args.self.now.here.space c.args.peer limits (calls_at c.args.peer (history_of c.args.self.now.here.space c.args.self.now.here.n D)) there.2)
+    ∙ ap is_some (told_onward (ends.Front (front_text c.front.result)) there.2 (λ M stood. c.front.ensures.answer c.args.self.now.here.space c.args.peer limits M stood))
     ∙ sym (act_there stands c.args.peer peer (sym c.has_closed.ensures ∙ c.if-has_closed.false))

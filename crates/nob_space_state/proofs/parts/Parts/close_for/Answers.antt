@@ -1,9 +1,10 @@
 use Rattle.std.proofs.Common.{◌≡◌, ℕ, ◌-◌, true, false, Ok, get_or, refl, subst, ◌∙◌}
 use lib.ListN.{set}
 use Rattle.nob_model_session.specs.declared.entry.EndEntry.TheVariants as ends
+use Rattle.nob_session.proofs.Alike.{called_onward}
 use Rattle.nob_model_types.specs.declared.deed.Cause.{Cause}
 use Rattle.nob_model_types.specs.declared.deed.Cause.TheVariants as causes
-use Rattle.nob_model_history.specs.Ends.{call_of_closing, calls_at}
+use Rattle.nob_model_history.specs.Ends.{call_of_closing}
 use Rattle.nob_model_history.specs.Histories.{history_of}
 use Rattle.nob_space_state.specs.Closing.{ClosesDown, Closes}
 use Rattle.nob_space_state.specs.Parts.{state_of, with_sessions}
@@ -27,7 +28,7 @@ closed_by c cause call_is = λ limits D stands its.
     let is : c.index_mut.result.now ≡ get_or c.args.self.now.sessions.items (c.args.peer - 1) c.index_mut.result.now = subst (λ k. c.index_mut.result.now ≡ get_or c.args.self.now.sessions.items k c.index_mut.result.now) c.place.ensures.value c.index_mut.ensures.value in
     same_space c.close_down.new.self.here c.args.self.now.here c.close_down.ensures.here (ended_stands stands c.args.peer c.args.reason cause (λ e. ends.Close c.args.reason (Ok e)) call_is c.index_mut.result.now c.close.new.self (state_of c.close_down.new.self) c.in-Ok.closed c.requires.peer is
     (c.in-Ok.ensures {u = tt}).reason (c.in-Ok.ensures {u = tt}).ends.1
-    (λ before. ((c.in-Ok.ensures {u = tt}).answer c.args.self.now.here.space c.args.peer limits (calls_at c.args.peer (history_of c.args.self.now.here.space c.args.self.now.here.n D)) before).1)
+    (λ before. (called_onward (ends.Close c.args.reason (Ok c.in-Ok.closed)) before (λ M stood. (c.in-Ok.ensures {u = tt}).answer c.args.self.now.here.space c.args.peer limits M stood)).1)
     (subst (λ (k : ℕ). ClosesDown c.args.self.now.here.space c.in-Ok.closed.peer (with_sessions (set c.args.self.now.sessions.items k c.close.new.self) (state_of c.args.self.now)) (state_of c.close_down.new.self)) c.place.ensures.value c.close_down.ensures.closes) its)
 
 pub returns-clause-item : goal.returns-clause-item

@@ -2,6 +2,7 @@ use Rattle.std.proofs.Common.{◌≡◌, ◌-◌, List, true, get_or, sym, ap, s
 use Rattle.nob_session.specs.Calls.{frames_of}
 use Rattle.nob_session.specs.Dues.{due_of}
 use Rattle.nob_session.specs.Stands.{Roomy, End}
+use Rattle.nob_session.proofs.Alike.{onward_is}
 use Rattle.nob_model_types.specs.Sessions.{is_peer}
 use Rattle.nob_model_history.specs.Histories.{history_of}
 use Rattle.nob_space_state.proofs.Ends.{at_peer, end_there}
@@ -18,5 +19,5 @@ returns-in-Some c limits D stands =
     let is = at_peer c.args.self.now.sessions.items c.place.result c.args.peer c.in-Some.session.now c.place.ensures.value read in
     let there = end_there c.args.self.now.here.space c.args.self.now.here.n limits c.args.self.now.sessions.items (history_of c.args.self.now.here.space c.args.self.now.here.n D) c.args.peer c.in-Some.session.now stands.ends peer is in
     c.due.ensures
-    ∙ ap (λ (e : End). due_of e.transmitted (frames_of e)) there.2
+    ∙ ap (λ (e : End). due_of e.transmitted (frames_of e)) (onward_is there.2)
     ∙ sym (due_there c.args.self.now.here.space c.args.self.now.here.n c.args.peer limits.window (history_of c.args.self.now.here.space c.args.self.now.here.n D) peer)

@@ -1,4 +1,4 @@
-use Rattle.std.proofs.Common.{◌≡◌, ℕ, ◌+◌, ◌-◌, ◌∷◌, List, true, false, Some, IsOk, find, nat_le, get_or, sym, ap, subst, ◌∙◌, refl, arith}
+use Rattle.std.proofs.Common.{◌≡◌, ℕ, ◌+◌, ◌-◌, ◌∷◌, List, true, false, Some, Ok, IsOk, find, nat_le, get_or, sym, ap, subst, ◌∙◌, refl, arith}
 use lib.ListN.{set}
 use Rattle.std.proofs.lemmas.Option.{none-some}
 use Rattle.nob_item.specs.Judging.{Fails}
@@ -6,13 +6,14 @@ use Rattle.nob_item.specs.Writing.{bytes_of}
 use Rattle.nob_item.specs.declared.item.Item.TheVariants as items
 use Rattle.nob_ids.specs.declared.wire_rep.WireRep.{WireRep}
 use Rattle.nob_model_session.specs.declared.entry.Kind.TheVariants.{Limited}
+use Rattle.nob_model_session.specs.declared.entry.EndEntry.TheVariants as ends
 use Rattle.nob_session.specs.Stands.{End}
+use Rattle.nob_session.proofs.Alike.{onward_is, stepped_onward}
 use Rattle.nob_model_types.specs.declared.answer.Answer.TheVariants as answers
 use Rattle.nob_model_types.specs.declared.deed.Deed.TheVariants as did
 use Rattle.nob_model_types.specs.declared.message.Message.{Message}
 use Rattle.nob_model_work.specs.Work.{is_run}
 use Rattle.nob_model_history.specs.Histories.{history_of}
-use Rattle.nob_model_history.specs.Ends.{calls_at}
 use Rattle.nob_model_acting.specs.Sending.{unless}
 use Rattle.nob_space_state.specs.Looks.{has_ended}
 use Rattle.nob_space_state.specs.Parts.{state_of}
@@ -131,7 +132,7 @@ send_pinned-requires-clause-new c =
     let sound = run_sound c.requires.2 c.args.job c.args.outcome.now c.in-Some.run'.now found in
     let is : c.index_mut-end.result.now ≡ get_or c.args.self.now.sessions.items (c.in-Some.run'.now.message.from - 1) c.index_mut-end.result.now = subst (λ k. c.index_mut-end.result.now ≡ get_or c.args.self.now.sessions.items k c.index_mut-end.result.now) c.place.ensures.value c.index_mut-end.ensures.value in
     let there = end_there c.args.self.now.here.space c.args.self.now.here.n c.requires.0 c.args.self.now.sessions.items (history_of c.args.self.now.here.space c.args.self.now.here.n c.requires.1) c.in-Some.run'.now.message.from c.index_mut-end.result.now c.requires.2.ends sound.0.peer is in
-    next_unpinned c.in-Some.run'.now.message.from (c.index_mut-end.result.now.end.handed + 1) c.requires.2 (ap (λ (end : End). end.handed + 1) there.2)
+    next_unpinned c.in-Some.run'.now.message.from (c.index_mut-end.result.now.end.handed + 1) c.requires.2 (ap (λ (end : End). end.handed + 1) (onward_is there.2))
 
 pub returns-in_err-send_pinned-clause-err : goal.returns-in_err-send_pinned-clause-err
 returns-in_err-send_pinned-clause-err c = after_error _ c.from_residual-in_err-send_pinned.result (λ limits D stands.
@@ -182,7 +183,7 @@ returns-clause-stands c limits D stands =
     c.index_mut-end.result.now c.send_pinned.new.session c.send_pinned.new.pins is
     c.in-Ok.payload.items c.status_of.result c.in_ok-send_pinned.field-0 c.value_of-value.result.now c.in_ok-reps.reps.items c.end_job-2.new.table c.end_job-2.new.jobs.running
     c.status_of.ensures c.value_of-value.ensures (c.in-Ok.ensures {u = tt}).exact sent.number
-    (λ before. sent.answer c.args.self.now.here.space c.in-Some.run'.now.message.from limits (calls_at c.in-Some.run'.now.message.from (history_of c.args.self.now.here.space c.args.self.now.here.n D)) before)
+    (λ before. stepped_onward (ends.Send c.in-Ok.payload.items Limited (Ok c.in_ok-send_pinned.field-0)) refl before (λ M stood. sent.answer c.args.self.now.here.space c.in-Some.run'.now.message.from limits M stood))
     c.in_ok-reps.ensures (subst (λ (reps : List WireRep). AddsPins c.args.self.now.pins.bundles c.send_pinned.new.pins.bundles c.in-Some.run'.now.message.from (c.index_mut-end.result.now.end.handed + 1) reps) c.as_slice.ensures.value sent.pins)
     c.end_job-2.ensures.back c.end_job-2.ensures.ended)))
     c.keep_all.new.table c.keep_all.ensures.table.items

@@ -1,10 +1,10 @@
-use Rattle.std.proofs.Common.{◌≡◌, ℕ, ◌∷◌, true, Ok, Err, refl, sym, subst, ◌∙◌}
+use Rattle.std.proofs.Common.{◌≡◌, ℕ, ◌∷◌, true, Ok, Err, sym, subst, ◌∙◌}
 use lib.ListN.{set}
 use Rattle.nob_model_types.specs.Sessions.{is_peer}
+use Rattle.nob_model_session.specs.declared.entry.EndEntry.TheVariants as ends
+use Rattle.nob_session.proofs.Alike.{called_onward}
 use Rattle.nob_model_types.specs.declared.deed.Deed.TheVariants as did
-use Rattle.nob_model_history.specs.Ends.{calls_at}
 use Rattle.nob_model_history.specs.Histories.{history_of}
-use Rattle.nob_space_state.specs.Looks.{has_closed}
 use Rattle.nob_space_state.specs.Parts.{state_of, with_sessions}
 use Rattle.nob_space_state.specs.Stands.{Stands}
 use Rattle.nob_space_state.proofs.Ends.{at_peer, end_there}
@@ -62,4 +62,4 @@ returns-clause-stands c limits D stands =
     (opened_stands stands c.args.peer c.in-Some.number
     (open_is c.args.self.now.here.space c.args.self.now.here.n limits D c.args.peer c.in-Some.number (returns-clause-answer c limits D stands))
     c.index_mut.result.now c.reopen.new.self is
-    ((c.in-Ok.ensures {u = tt}).answer c.args.self.now.here.space c.args.peer limits (calls_at c.args.peer (history_of c.args.self.now.here.space c.args.self.now.here.n D)) there.2).1)
+    (called_onward (ends.Reopen c.in-Some.number (Ok tt)) there.2 (λ M stood. (c.in-Ok.ensures {u = tt}).answer c.args.self.now.here.space c.args.peer limits M stood)).1)

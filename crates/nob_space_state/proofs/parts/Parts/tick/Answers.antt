@@ -1,14 +1,14 @@
-use Rattle.std.proofs.Common.{◌≡◌, ℕ, ◌-◌, ◌∷◌, true, Some, None, Ok, refl, sym, ap, subst, ◌∙◌}
+use Rattle.std.proofs.Common.{◌≡◌, ℕ, ◌-◌, ◌∷◌, true, Some, None, Ok, Err, refl, sym, ap, subst, ◌∙◌}
 use lib.ListN.{set}
 use Rattle.nob_model_session.specs.declared.entry.EndEntry.TheVariants as ends
 use Rattle.nob_model_session.specs.Right.{IsRight}
 use Rattle.nob_session.specs.Calls.{EndsBy}
 use Rattle.nob_session.specs.Stands as session
+use Rattle.nob_session.proofs.Alike.{called_onward}
 use Rattle.nob_model_types.specs.Sessions.{is_peer}
 use Rattle.nob_model_types.specs.declared.deed.Cause.TheVariants as causes
 use Rattle.nob_model_types.specs.declared.deed.Deed.TheVariants as did
 use Rattle.nob_model_types.specs.declared.answer.Answer.TheVariants as answers
-use Rattle.nob_model_history.specs.Ends.{calls_at}
 use Rattle.nob_model_history.specs.Histories.{history_of}
 use Rattle.nob_model.specs.Right.{tick_of}
 use Rattle.nob_space_state.specs.Closing.{ClosesDown}
@@ -32,7 +32,7 @@ returns-in-Ok-None-clause-answer c limits D stands =
     let peer : is_peer c.args.self.now.here.space c.args.self.now.here.n c.args.peer ≡ true = sym c.is_peer.ensures ∙ c.if-not-is_peer.false in
     let is = at_peer c.args.self.now.sessions.items c.place.result c.args.peer c.index_mut.result.now c.place.ensures.value c.index_mut.ensures.value in
     let there = end_there c.args.self.now.here.space c.args.self.now.here.n limits c.args.self.now.sessions.items (history_of c.args.self.now.here.space c.args.self.now.here.n D) c.args.peer c.index_mut.result.now stands.ends peer is in
-    tick_told _ _ _ _ _ peer ∙ ap tick_of (sym (subst (λ o. IsRight c.args.self.now.here.space c.args.peer limits (ends.Tick (Ok o)) (calls_at c.args.peer (history_of c.args.self.now.here.space c.args.self.now.here.n D)) × session.Stands c.args.self.now.here.space c.args.peer limits c.tick.new.self.end (ends.Tick (Ok o) ∷ (calls_at c.args.peer (history_of c.args.self.now.here.space c.args.self.now.here.n D)))) c.in-Ok-None.field-0-is ((c.in-Ok-None.ensures {u = tt}).answer c.args.self.now.here.space c.args.peer limits (calls_at c.args.peer (history_of c.args.self.now.here.space c.args.self.now.here.n D)) there.2)).0)
+    tick_told _ _ _ _ _ peer ∙ ap tick_of (sym (called_onward (ends.Tick (Ok None)) there.2 (λ M stood. subst (λ o. IsRight c.args.self.now.here.space c.args.peer limits (ends.Tick (Ok o)) M × session.Stands c.args.self.now.here.space c.args.peer limits c.tick.new.self.end (ends.Tick (Ok o) ∷ M)) c.in-Ok-None.field-0-is ((c.in-Ok-None.ensures {u = tt}).answer c.args.self.now.here.space c.args.peer limits M stood))).0)
 
 pub returns-in-Ok-None-clause-stands : goal.returns-in-Ok-None-clause-stands
 returns-in-Ok-None-clause-stands c limits D stands =
@@ -42,14 +42,14 @@ returns-in-Ok-None-clause-stands c limits D stands =
     subst (λ (k : ℕ). Stands c.args.self.now.here.space c.args.self.now.here.n limits (with_sessions (set c.args.self.now.sessions.items k c.tick.new.self) (state_of c.args.self.now)) (did.Tick c.args.peer ∷ D)) (sym c.place.ensures.value)
     (called_stands stands c.args.peer c.index_mut.result.now c.tick.new.self peer is (did.Tick c.args.peer) (ends.Tick (Ok None)) (tick_is_still c.args.self.now.here.space c.args.self.now.here.n c.args.peer D) (tick_calls c.args.self.now.here.space c.args.self.now.here.n c.args.peer D)
     (tick_is c.args.self.now.here.space c.args.self.now.here.n limits D c.args.peer (returns-in-Ok-None-clause-answer c limits D stands))
-    (subst (λ o. IsRight c.args.self.now.here.space c.args.peer limits (ends.Tick (Ok o)) (calls_at c.args.peer (history_of c.args.self.now.here.space c.args.self.now.here.n D)) × session.Stands c.args.self.now.here.space c.args.peer limits c.tick.new.self.end (ends.Tick (Ok o) ∷ (calls_at c.args.peer (history_of c.args.self.now.here.space c.args.self.now.here.n D)))) c.in-Ok-None.field-0-is ((c.in-Ok-None.ensures {u = tt}).answer c.args.self.now.here.space c.args.peer limits (calls_at c.args.peer (history_of c.args.self.now.here.space c.args.self.now.here.n D)) there.2)).1)
+    (called_onward (ends.Tick (Ok None)) there.2 (λ M stood. subst (λ o. IsRight c.args.self.now.here.space c.args.peer limits (ends.Tick (Ok o)) M × session.Stands c.args.self.now.here.space c.args.peer limits c.tick.new.self.end (ends.Tick (Ok o) ∷ M)) c.in-Ok-None.field-0-is ((c.in-Ok-None.ensures {u = tt}).answer c.args.self.now.here.space c.args.peer limits M stood))).1)
 
 pub returns-in-Ok-Some-clause-answer : goal.returns-in-Ok-Some-clause-answer
 returns-in-Ok-Some-clause-answer c limits D stands =
     let peer : is_peer c.args.self.now.here.space c.args.self.now.here.n c.args.peer ≡ true = sym c.is_peer.ensures ∙ c.if-not-is_peer.false in
     let is = at_peer c.args.self.now.sessions.items c.place.result c.args.peer c.index_mut.result.now c.place.ensures.value c.index_mut.ensures.value in
     let there = end_there c.args.self.now.here.space c.args.self.now.here.n limits c.args.self.now.sessions.items (history_of c.args.self.now.here.space c.args.self.now.here.n D) c.args.peer c.index_mut.result.now stands.ends peer is in
-    tick_told _ _ _ _ _ peer ∙ ap tick_of (sym (subst (λ o. IsRight c.args.self.now.here.space c.args.peer limits (ends.Tick (Ok o)) (calls_at c.args.peer (history_of c.args.self.now.here.space c.args.self.now.here.n D)) × session.Stands c.args.self.now.here.space c.args.peer limits c.tick.new.self.end (ends.Tick (Ok o) ∷ (calls_at c.args.peer (history_of c.args.self.now.here.space c.args.self.now.here.n D)))) c.in-Ok-Some.field-0-is ((c.in-Ok-Some.ensures {u = tt}).answer c.args.self.now.here.space c.args.peer limits (calls_at c.args.peer (history_of c.args.self.now.here.space c.args.self.now.here.n D)) there.2)).0) ∙ ap (λ reason. Ok (answers.Closed reason)) (sym c.reason.ensures)
+    tick_told _ _ _ _ _ peer ∙ ap tick_of (sym (called_onward (ends.Tick (Ok (Some c.in-Ok-Some.closed))) there.2 (λ M stood. subst (λ o. IsRight c.args.self.now.here.space c.args.peer limits (ends.Tick (Ok o)) M × session.Stands c.args.self.now.here.space c.args.peer limits c.tick.new.self.end (ends.Tick (Ok o) ∷ M)) c.in-Ok-Some.field-0-is ((c.in-Ok-Some.ensures {u = tt}).answer c.args.self.now.here.space c.args.peer limits M stood))).0) ∙ ap (λ reason. Ok (answers.Closed reason)) (sym c.reason.ensures)
 
 pub returns-in-Ok-Some-clause-stands : goal.returns-in-Ok-Some-clause-stands
 returns-in-Ok-Some-clause-stands c limits D stands =
@@ -57,7 +57,7 @@ returns-in-Ok-Some-clause-stands c limits D stands =
     let is = at_peer c.args.self.now.sessions.items c.place.result c.args.peer c.index_mut.result.now c.place.ensures.value c.index_mut.ensures.value in
     same_space c.close_down.new.self.here c.args.self.now.here c.close_down.ensures.here (ended_stands stands c.args.peer c.reason.result causes.Ticks (λ e. ends.Tick (Ok (Some e))) refl c.index_mut.result.now c.tick.new.self (state_of c.close_down.new.self) c.in-Ok-Some.closed peer is
     (sym c.reason.ensures) (subst (λ o. EndsBy c.index_mut.result.now.end c.tick.new.self.end o) c.in-Ok-Some.field-0-is (c.in-Ok-Some.ensures {u = tt}).ends).1
-    (λ before. (subst (λ o. IsRight c.args.self.now.here.space c.args.peer limits (ends.Tick (Ok o)) (calls_at c.args.peer (history_of c.args.self.now.here.space c.args.self.now.here.n D)) × session.Stands c.args.self.now.here.space c.args.peer limits c.tick.new.self.end (ends.Tick (Ok o) ∷ (calls_at c.args.peer (history_of c.args.self.now.here.space c.args.self.now.here.n D)))) c.in-Ok-Some.field-0-is ((c.in-Ok-Some.ensures {u = tt}).answer c.args.self.now.here.space c.args.peer limits (calls_at c.args.peer (history_of c.args.self.now.here.space c.args.self.now.here.n D)) before)).1)
+    (λ before. (called_onward (ends.Tick (Ok (Some c.in-Ok-Some.closed))) before (λ M stood. subst (λ o. IsRight c.args.self.now.here.space c.args.peer limits (ends.Tick (Ok o)) M × session.Stands c.args.self.now.here.space c.args.peer limits c.tick.new.self.end (ends.Tick (Ok o) ∷ M)) c.in-Ok-Some.field-0-is ((c.in-Ok-Some.ensures {u = tt}).answer c.args.self.now.here.space c.args.peer limits M stood))).1)
     (subst (λ (k : ℕ). ClosesDown c.args.self.now.here.space c.in-Ok-Some.closed.peer (with_sessions (set c.args.self.now.sessions.items k c.tick.new.self) (state_of c.args.self.now)) (state_of c.close_down.new.self)) c.place.ensures.value c.close_down.ensures.closes)
     (ticks_close_is c.args.self.now.here.space c.args.self.now.here.n limits D c.args.peer c.reason.result (returns-in-Ok-Some-clause-answer c limits D stands)))
 
@@ -66,7 +66,7 @@ returns-in-Err-clause-answer c limits D stands =
     let peer : is_peer c.args.self.now.here.space c.args.self.now.here.n c.args.peer ≡ true = sym c.is_peer.ensures ∙ c.if-not-is_peer.false in
     let is = at_peer c.args.self.now.sessions.items c.place.result c.args.peer c.index_mut.result.now c.place.ensures.value c.index_mut.ensures.value in
     let there = end_there c.args.self.now.here.space c.args.self.now.here.n limits c.args.self.now.sessions.items (history_of c.args.self.now.here.space c.args.self.now.here.n D) c.args.peer c.index_mut.result.now stands.ends peer is in
-    tick_told _ _ _ _ _ peer ∙ ap tick_of (sym ((c.in-Err.ensures {u = tt}).answer c.args.self.now.here.space c.args.peer limits (calls_at c.args.peer (history_of c.args.self.now.here.space c.args.self.now.here.n D)) there.2).0)
+    tick_told _ _ _ _ _ peer ∙ ap tick_of (sym (called_onward (ends.Tick (Err c.in-Err.field-0)) there.2 (λ M stood. (c.in-Err.ensures {u = tt}).answer c.args.self.now.here.space c.args.peer limits M stood)).0)
 
 pub returns-in-Err-clause-err : goal.returns-in-Err-clause-err
 returns-in-Err-clause-err c limits D stands =

@@ -1,0 +1,218 @@
+//! Limits of a node: what is said at each, that others go on meanwhile, and how much memory a node takes under those
+//! that peers may use up. Those of which tests/hostile.rs speaks aren't here.
+
+use masttomato::engine::{Answered, Engine, LONGEST_BODY, Life, Session, Settings, Ticket};
+use masttomato::space::{Outcome, Refusal, SpaceError, SpaceId, Value};
+use masttomato::{Node, NodeError, Peers, Remote, interface};
+use std::io::{ErrorKind, Read};
+use std::net::TcpStream;
+use std::time::{Duration, Instant};
+
+/// An object of tests.
+#[interface]
+pub trait Bell {
+    /// Rings.
+    fn ring(&mut self) -> u8;
+}
+
+struct Brass;
+
+impl Bell for Brass {
+    fn ring(&mut self) -> u8 {
+        7
+    }
+}
+
+fn id(number: u16) -> SpaceId {
+    SpaceId::new(number).expect("1 to 32")
+}
+
+fn engine(number: u16, spaces: u16) -> Engine {
+    Engine::new(Settings::new(id(number), id(spaces)), Duration::ZERO).expect("memory")
+}
+
+fn connect(one: &mut Engine, other: &mut Engine) {
+    let (first, second) = (one.id(), other.id());
+    one.connected(second, Life(second.get().into()), Duration::ZERO).expect("its only life");
+    other.connected(first, Life(first.get().into()), Duration::ZERO).expect("its only life");
+}
+
+// What an engine has for the other comes to it, which does what there is to do.
+fn carry(from: &mut Engine, to: &mut Engine, now: Duration) {
+    let _turn = from.turn(now);
+    let out = from.output(to.id());
+    to.bytes(from_of(to), out.left(), now).expect("what an honest engine sends");
+    out.advance(usize::MAX);
+}
+
+// Of two engines, 1 and 2, the other one's number.
+fn from_of(to: &Engine) -> SpaceId {
+    id(3 - to.id().get())
+}
+
+#[test]
+fn so_many_calls_are_open_and_further_ones_wait() {
+    let (mut owner, mut caller) = (engine(1, 2), engine(2, 2));
+    connect(&mut owner, &mut caller);
+    for ticket in 1..=2_048 {
+        caller.try_call(Ticket(ticket), id(1).agent(), 0, Value::Unit);
+    }
+    caller.try_call(Ticket(3_000), id(1).agent(), 0, Value::Unit);
+    caller.call(Ticket(3_001), id(1).agent(), 0, Value::Unit);
+    let now = Duration::ZERO;
+    assert_eq!(caller.turn(now).answers, [(Ticket(3_000), Answered::Busy)]);
+    let report = caller.report(now);
+    assert_eq!((report.counts.calls_open, report.sessions[0].held), (2_048, 1));
+    // One answer makes room for the one that waits.
+    carry(&mut caller, &mut owner, now);
+    let job = owner.turn(now).jobs.remove(0);
+    owner.finish(job.job, Outcome::NoMethod);
+    // An acknowledgement, and then the answer.
+    (0..2).for_each(|_| carry(&mut owner, &mut caller, now));
+    assert_eq!(caller.turn(now).answers.len(), 1);
+    let report = caller.report(now);
+    assert_eq!((report.counts.calls_open, report.sessions[0].held), (2_048, 0));
+    assert_eq!(caller.session(id(1)), Session::Open);
+}
+
+#[test]
+fn so_many_objects_are_live_and_no_more() {
+    let mut owner = engine(1, 2);
+    let first = owner.export().expect("room");
+    for _ in 2..=65_536 {
+        owner.export().expect("room");
+    }
+    assert_eq!(owner.export(), Err(SpaceError::Refused(Refusal::Limit)));
+    assert_eq!(owner.report(Duration::ZERO).live, 65_536);
+    owner.release(first);
+    assert_eq!(owner.turn(Duration::ZERO).withdrawn, [first.index]);
+    let next = owner.export().expect("room again");
+    assert_eq!(next.index, 65_537, "no index is used twice");
+}
+
+#[test]
+fn so_many_names_are_bound_and_no_more() {
+    let node = Node::builder(id(1), Peers::none()).start().expect("a node");
+    let bell = node.export::<dyn Bell>(Box::new(Brass)).expect("room");
+    for number in 0..1_024 {
+        node.bind(&format!("bell {number}"), &bell).expect("a name");
+    }
+    for name in ["one more", "", &"n".repeat(256)] {
+        assert!(matches!(node.bind(name, &bell), Err(NodeError::BadName)), "{name}");
+    }
+    node.bind("bell 5", &bell).expect("a name that is there may be bound again");
+    assert!(node.unbind("bell 6"));
+    node.bind(&"n".repeat(255), &bell).expect("room again");
+}
+
+// Whether whoever listens has hung up.
+fn is_hung_up(stream: &mut TcpStream) -> bool {
+    stream.set_nonblocking(true).expect("a socket");
+    match stream.read(&mut [0]) {
+        Ok(count) => count == 0,
+        Err(error) => error.kind() != ErrorKind::WouldBlock,
+    }
+}
+
+fn eventually(what: &str, mut holds: impl FnMut() -> bool) {
+    let since = Instant::now();
+    while !holds() {
+        assert!(since.elapsed() < Duration::from_secs(60), "it never comes: {what}");
+        std::thread::sleep(Duration::from_millis(5));
+    }
+}
+
+// Strangers who say nothing: 64 are waited for, five seconds each; whoever comes meanwhile is hung up on at once,
+// and members who are there go on. Afterwards there is room again.
+#[test]
+fn so_many_strangers_are_waited_for_and_not_for_long() {
+    let owner = Node::builder(id(1), Peers::none()).listen("127.0.0.1:0").spaces(id(3));
+    let owner = owner.start().expect("a node");
+    let address = owner.address().expect("it listens");
+    owner.bind("bell", &owner.export::<dyn Bell>(Box::new(Brass)).expect("room")).expect("a name");
+    let member = |number| {
+        let peers = Peers::none().with(id(1), address);
+        Node::builder(id(number), peers).spaces(id(3)).start().expect("a node")
+    };
+    let two = member(2);
+    let bell: Remote<dyn Bell> = two.lookup(id(1), "bell").wait().expect("a bell");
+    let began = Instant::now();
+    let connect = || TcpStream::connect(address).expect("a node");
+    let mut strangers: Vec<TcpStream> = (0..64).map(|_| connect()).collect();
+    let mut further = connect();
+    eventually("a further one is hung up on", || is_hung_up(&mut further));
+    let waited = strangers.iter_mut().map(is_hung_up).filter(|is_over| !is_over).count();
+    // On a machine that is busy some of their five seconds may be over.
+    assert!(waited == 64 || began.elapsed() > Duration::from_secs(4), "{waited}");
+    assert_eq!(bell.ring().wait_for(Duration::from_secs(60)), Ok(7));
+    eventually("they are hung up on", || strangers.iter_mut().all(is_hung_up));
+    assert!(began.elapsed() >= Duration::from_secs(4));
+    let three = member(3);
+    let bell: Remote<dyn Bell> = three.lookup(id(1), "bell").wait().expect("a bell");
+    assert_eq!(bell.ring().wait_for(Duration::from_secs(60)), Ok(7));
+}
+
+// How much memory this process has, where the system says so.
+fn memory() -> Option<usize> {
+    let statm = std::fs::read_to_string("/proc/self/statm").ok()?;
+    let pages: usize = statm.split(' ').nth(1)?.parse().ok()?;
+    Some(pages * 4_096)
+}
+
+// A frame of data of a session.
+fn frame(from: u16, session: u32, seq: u64, payload: &[u8]) -> Vec<u8> {
+    let mut bytes = vec![0x4e, 2, 1, 0];
+    bytes.extend(from.to_be_bytes());
+    bytes.extend(1_u16.to_be_bytes());
+    bytes.extend(seq.to_be_bytes());
+    bytes.extend(1_u64.to_be_bytes());
+    bytes.extend((payload.len() as u32).to_be_bytes());
+    bytes.extend(session.to_be_bytes());
+    bytes.extend(payload);
+    bytes
+}
+
+fn record(length: usize, body: &[u8]) -> Vec<u8> {
+    let mut bytes = (length as u32).to_be_bytes().to_vec();
+    bytes.extend([0; 4]);
+    bytes.extend(1_u64.to_be_bytes());
+    bytes.extend(body);
+    bytes
+}
+
+// What one peer may have an engine keep without being answered: items of sessions that aren't open here, the longest
+// ones, of more sessions than one and more numbers than fit; and a record of which the last byte never comes. All 31
+// peers do so, and an engine takes less than 64 MB for each of the two.
+#[test]
+fn what_peers_have_kept_is_bounded() {
+    let mut owner = engine(1, 32);
+    let now = Duration::ZERO;
+    for peer in 2..=32 {
+        owner.connected(id(peer), Life(peer.into()), now).expect("its only life");
+        owner.close(id(peer));
+    }
+    let Some(before) = memory() else {
+        return eprintln!("skipped: nobody says how much memory it has");
+    };
+    let payload = vec![7; 16_384];
+    for session in [2, 4, 3] {
+        for seq in 1..=80 {
+            for peer in 2..=32 {
+                let bytes = frame(peer, session, seq, &payload);
+                owner.bytes(id(peer), &record(bytes.len(), &bytes), now).expect("a frame");
+            }
+        }
+        let _turn = owner.turn(now);
+    }
+    let kept = memory().expect("as before").saturating_sub(before);
+    assert!(kept < 64 << 20, "{kept} bytes for what was passed over");
+    let before = memory().expect("as before");
+    let almost = record(LONGEST_BODY, &vec![7; LONGEST_BODY - 1]);
+    for peer in 2..=32 {
+        owner.bytes(id(peer), &almost, now).expect("a part of a record");
+    }
+    let kept = memory().expect("as before").saturating_sub(before);
+    assert!(kept < 64 << 20, "{kept} bytes for parts of records");
+    // It still does what it is asked.
+    assert!(owner.export().is_ok());
+}
