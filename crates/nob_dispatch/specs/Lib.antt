@@ -2,6 +2,8 @@ pub use Rattle.nob_dispatch_jobs.specs.Shelves
 pub use Rattle.nob_dispatch_jobs.specs.Ends
 pub use Rattle.nob_dispatch_jobs.specs.Working
 pub use Rattle.nob_dispatch_jobs.specs.Dispatching
+pub use Rattle.nob_dispatch_jobs.specs.declared.shelf.Place
+pub use Rattle.nob_dispatch_jobs.specs.declared.errand.Return
 pub mod Serving
 pub mod Assigning
 pub mod Sides

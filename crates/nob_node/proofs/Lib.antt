@@ -1,1 +1,2 @@
 mod Holdings
+mod Shelved

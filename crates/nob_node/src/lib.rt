@@ -5,6 +5,7 @@ mod answers;
 mod app;
 mod error;
 mod hold;
+mod leftovers;
 mod node;
 mod running;
 

@@ -1,6 +1,6 @@
 //! How a node runs.
 
-ghost use Rattle.std.specs.Prelude.{◌≡◌, IfOk};
+ghost use Rattle.std.specs.Prelude.{◌≡◌, ◌↔◌, true, IfOk, MatchResult};
 ghost use Rattle.nob_keeper.specs.Accounts.{keeps_all};
 ghost use Rattle.nob_keeper.specs.Summaries as summaries;
 ghost use Rattle.nob_node.specs.Records as nodes;
@@ -8,13 +8,12 @@ ghost use denote.Param.Send.{IsSend, IsSync};
 
 use crate::app::App;
 use crate::error::NodeError;
+use crate::leftovers::{Rest, end_pool, keep, rest_of};
 use crate::node::Node;
-use nob_dispatch_lanes::LaneTake;
 use nob_dispatch_objects::Object;
 use nob_keeper::{Keep, Keeper, KeeperError, Record, Seat};
 use nob_node_site::{
-    Config, Crew, Desk, Ends, Errand, Gate, Hand, Inbox, Kept, Left, Outbox, Parts, Place,
-    Remaining, Return, Shelf, Site, run_crew, site_of,
+    Config, Crew, Ends, Gate, Inbox, Left, Outbox, Parts, Site, run_crew, site_of,
 };
 use std::alloc::Global;
 use std::sync::{Mutex, Wait};
@@ -28,14 +27,6 @@ pub struct Report<B: Object> {
     pub record: Record,
     /// The application's objects that weren't withdrawn, by rising index.
     pub objects: Vec<Left<B>>,
-}
-
-// What is left of a desk whose jobs have ended.
-#[derive(Drop)]
-struct Rest<B: Object> {
-    seat: Seat,
-    shelf: Shelf<Kept<B>>,
-    returns: LaneTake<Return<Kept<B>>>,
 }
 
 // What is left when all threads have ended.
@@ -62,6 +53,7 @@ pub fn run<B: Object + Send, R: Threads + Wait + Sync, G: Gate + Sync, A: App<B>
     app: &mut A,
 ) -> Result<Report<B>, (NodeError, Vec<Left<B>>)>
     ensures recorded { IfOk result (λ report. nodes.IsRecorded report.«record») }
+    ensures own { IfOk result (λ report. nodes.IsOwn config report.«record») }
     ensures kept { IfOk result (λ report. summaries.is_chain report.«record»
         ≡ keeps_all config.keep) }
 {
@@ -69,7 +61,7 @@ pub fn run<B: Object + Send, R: Threads + Wait + Sync, G: Gate + Sync, A: App<B>
         return Err(without_memory(alloc));
     };
     let (crew, remains) = run_threads(rt, alloc, &site, gate, crew, app);
-    finish(rt, alloc, config.keep(), site, crew, remains)
+    finish(rt, alloc, config, site, crew, remains)
 }
 
 // What a node answers that has no memory for its parts.
@@ -132,28 +124,19 @@ fn run_app<B: Object, R: Wait, A: App<B>>(
     }
 }
 
-// What is left of a desk. Nothing more is given to the workers.
-fn rest_of<B: Object>(desk: Desk<Kept<B>>) -> Rest<B> {
-    let (left, _unsent, _errands, returns) = desk.end();
-    let Remaining { seat, shelf, .. } = left;
-    Rest {
-        seat,
-        shelf,
-        returns,
-    }
-}
-
 // Ends a node whose threads have ended.
 fn finish<B: Object, R: Wait>(
     rt: &R,
     alloc: Global,
-    kept: Keep,
+    config: Config,
     site: Site<B>,
     crew: Option<Crew<B>>,
     remains: Remains<B>,
 ) -> Result<Report<B>, (NodeError, Vec<Left<B>>)>
     ensures recorded { IfOk result (λ report. nodes.IsRecorded report.«record») }
-    ensures kept { IfOk result (λ report. summaries.is_chain report.«record» ≡ keeps_all kept) }
+    ensures own { IfOk result (λ report. nodes.IsOwn config report.«record») }
+    ensures kept { IfOk result (λ report. summaries.is_chain report.«record»
+        ≡ keeps_all config.keep) }
 {
     let has_failed = site.has_failed();
     let Parts {
@@ -178,7 +161,7 @@ fn finish<B: Object, R: Wait>(
     keep_all(&mut seats, outbox, inboxes);
     let objects = end_pool(rt, alloc, hands, rest, &mut seats);
     if is_whole && !has_failed {
-        return close(keeper, kept, seats, objects);
+        return close(keeper, config, seats, objects);
     }
     keeper.shut();
     let error = if is_whole {
@@ -203,22 +186,46 @@ fn keep_all(seats: &mut Vec<Seat>, outbox: Outbox, inboxes: Vec<Mutex<Inbox>>) {
     }
 }
 
-// The report of a node of whose entries this was kept.
+// The report of a node. What is kept is looked at once more: that it is of the node's own space. It
+// always is, since no other space was made.
 fn close<B: Object>(
     keeper: Keeper,
-    kept: Keep,
+    config: Config,
     seats: Vec<Seat>,
     objects: Vec<Left<B>>,
 ) -> Result<Report<B>, (NodeError, Vec<Left<B>>)>
     ensures recorded { IfOk result (λ report. nodes.IsRecorded report.«record») }
-    ensures kept { IfOk result (λ report. summaries.is_chain report.«record» ≡ keeps_all kept) }
+    ensures own { IfOk result (λ report. nodes.IsOwn config report.«record») }
+    ensures kept { IfOk result (λ report. summaries.is_chain report.«record»
+        ≡ keeps_all config.keep) }
+    ensures objects { MatchResult result (λ report. report.objects ≡ objects)
+        (λ failed. failed.1 ≡ objects) }
 {
-    match record_of(keeper, kept, seats) {
-        Ok(record) => Ok(Report { record, objects }),
+    match record_of(keeper, config.keep(), seats) {
+        Ok(record) => {
+            if !is_own(&record, &config) {
+                return Err((NodeError::Keeper(KeeperError::Seats), objects));
+            }
+            Ok(Report { record, objects })
+        }
         Err((error, keeper)) => {
             keeper.shut();
             Err((NodeError::Keeper(error), objects))
         }
+    }
+}
+
+// Whether a record is of the space of a node, one of as many spaces, with the node's limits where it
+// says some.
+fn is_own(record: &Record, config: &Config) -> bool
+    ensures { (result ≡ true) ↔ nodes.IsOwn config.now record.now }
+{
+    match record {
+        Record::Chain(chain) => {
+            let parts = chain.parts();
+            config.is_of(parts.space, parts.n) && config.has_limits(parts.limits)
+        }
+        Record::Summary(summary) => config.is_of(summary.space, summary.n),
     }
 }
 
@@ -236,106 +243,5 @@ fn record_of(keeper: Keeper, kept: Keep, seats: Vec<Seat>) -> Result<Record, (Ke
             Ok(summary) => Ok(Record::Summary(summary)),
             Err((error, keeper, _seats)) => Err((error, keeper)),
         },
-    }
-}
-
-// A seat more, for which there is room.
-fn keep(seats: &mut Vec<Seat>, seat: Seat) {
-    let _ = seats.push(seat);
-}
-
-// Ends the hands and what is left of the desk: the application's objects.
-fn end_pool<B: Object, R: Wait>(
-    rt: &R,
-    alloc: Global,
-    hands: Vec<Hand<Kept<B>>>,
-    rest: Option<Rest<B>>,
-    seats: &mut Vec<Seat>,
-) -> Vec<Left<B>> {
-    let Some(rest) = rest else {
-        return Vec::new(alloc);
-    };
-    let Rest {
-        seat,
-        mut shelf,
-        mut returns,
-    } = rest;
-    keep(seats, seat);
-    for hand in hands {
-        let (seat, errand, mut errands, _returns) = hand.end();
-        keep(seats, seat);
-        if let Some(errand) = errand {
-            put_back(errand, &mut shelf);
-        }
-        take_unserved(rt, &mut errands, &mut shelf);
-    }
-    take_returned(rt, &mut returns, &mut shelf);
-    objects_of(rt, alloc, shelf)
-}
-
-// The objects of errands that nobody got come back.
-fn take_unserved<B: Object, R: Wait>(
-    rt: &R,
-    errands: &mut LaneTake<Errand<Kept<B>>>,
-    shelf: &mut Shelf<Kept<B>>,
-) {
-    for _ in rt.forever() {
-        let Some(errand) = errands.try_get_as(rt) else {
-            return;
-        };
-        put_back(errand, shelf);
-    }
-}
-
-// The object of an errand comes back.
-fn put_back<B: Object>(errand: Errand<Kept<B>>, shelf: &mut Shelf<Kept<B>>) {
-    let Errand { job, object } = errand;
-    let _ = shelf.give_back(job.target, object);
-}
-
-// The objects that were given back come back.
-fn take_returned<B: Object, R: Wait>(
-    rt: &R,
-    returns: &mut LaneTake<Return<Kept<B>>>,
-    shelf: &mut Shelf<Kept<B>>,
-) {
-    for _ in rt.forever() {
-        let Some(back) = returns.try_get_as(rt) else {
-            return;
-        };
-        let Return { index, object, .. } = back;
-        let _ = shelf.give_back(index, object);
-    }
-}
-
-// The application's objects, by rising index. Where there is no memory for them it waits for some:
-// none is lost.
-fn objects_of<B: Object, R: Wait>(
-    rt: &R,
-    alloc: Global,
-    mut shelf: Shelf<Kept<B>>,
-) -> Vec<Left<B>> {
-    let mut objects = Vec::new(alloc);
-    for _ in rt.forever() {
-        let Some((index, place)) = shelf.pop_first() else {
-            return objects;
-        };
-        if let Place::Here(object) = place
-            && let Some(object) = object.into_own()
-        {
-            push_waiting(rt, &mut objects, Left { index, object });
-        }
-    }
-    unreachable!()
-}
-
-// An object more, once there is memory for it.
-fn push_waiting<B: Object, R: Wait>(rt: &R, objects: &mut Vec<Left<B>>, left: Left<B>) {
-    for _ in rt.forever() {
-        if objects.reserve(1).is_ok() {
-            let _ = objects.push(left);
-            return;
-        }
-        thread::yield_now();
     }
 }

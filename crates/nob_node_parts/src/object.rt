@@ -1,6 +1,7 @@
 //! The objects of a node.
 
 ghost use Rattle.std.specs.Prelude.{◌≡◌};
+ghost use Rattle.nob_node_parts.specs.Objects.{own_in};
 
 use nob_dispatch_objects::{Agent, Done, Name, Object, Outcome};
 use nob_ids::WireRep;
@@ -33,7 +34,9 @@ impl<B: Object> Object for Kept<B> {
 
 impl<B: Object> Kept<B> {
     /// The application's object: `None` for the agent.
-    pub fn into_own(self) -> Option<B> {
+    pub fn into_own(self) -> Option<B>
+        ensures { result ≡ own_in self }
+    {
         match self {
             Kept::Own(object) => Some(object),
             Kept::Agent(_) => None,

@@ -1,6 +1,6 @@
 //! What a node is made of.
 
-ghost use Rattle.std.specs.Prelude.{◌≡◌, ◌≤◌, [], IfSome, is_some};
+ghost use Rattle.std.specs.Prelude.{◌≡◌, ◌↔◌, ◌≤◌, [], true, IfSome, is_some};
 ghost use Rattle.nob_fault.specs.Shims.{opening};
 ghost use Rattle.nob_keeper.specs.declared.keep.Keep.TheVariants as keeps;
 ghost use Rattle.nob_node_site.specs.Configs as spec;
@@ -84,6 +84,20 @@ impl Config {
             tick_every: self.tick_every,
             keep,
         }
+    }
+
+    /// Whether its space is this one, of so many.
+    pub fn is_of(&self, space: SpaceId, n: SpaceId) -> bool
+        ensures { (result ≡ true) ↔ ((space ≡ self.now.space) × (n ≡ self.now.n)) }
+    {
+        space == self.space && n.get() == self.n
+    }
+
+    /// Whether its sessions have these limits.
+    pub fn has_limits(&self, limits: Limits) -> bool
+        ensures { (result ≡ true) ↔ (limits ≡ self.now.limits) }
+    {
+        limits.window == self.limits.window && limits.retry == self.limits.retry
     }
 
     /// What the node keeps of its entries.

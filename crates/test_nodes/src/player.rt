@@ -122,14 +122,18 @@ impl<'m> Player<'m> {
         give_back(rt, node, hold);
     }
 
-    // Has an object of the other space call one of its own, twice.
+    // Has an object of the other space call one of its own, twice: the second time by another hold
+    // on it.
     fn call_back<R: Wait>(&mut self, rt: &R, node: &mut Node<Thing>) {
         self.meet(rt);
         let hold = found(rt, node, b"caller");
         self.meet(rt);
         if let Ok(own) = node.export(rt, Thing::Counter(0)) {
             let _ = said_by(rt, node, &hold, Value::Ref(own.rep()));
-            self.said = said_by(rt, node, &hold, Value::Ref(own.rep()));
+            if let Ok(twin) = node.dup(rt, &own) {
+                self.said = said_by(rt, node, &hold, Value::Ref(twin.rep()));
+                give_back(rt, node, Some(twin));
+            }
             give_back(rt, node, Some(own));
         }
         give_back(rt, node, hold);
