@@ -1,8 +1,8 @@
 -- A space that has done nothing is born as a new one.
-use Rattle.std.proofs.Common.{◌≡◌, ◌≤◌, ℕ, [], refl, arith}
+use Rattle.std.proofs.Common.{ℕ, [], refl, arith}
 use Rattle.nob_model_history.specs.Histories.{history}
 use Rattle.nob_model_history.specs.Anew.{IsNewEnd, BeginsAnew}
-use Rattle.nob_model_lives.specs.Births.{new_birth, IsBorn, NewLaw}
+use Rattle.nob_model_lives.specs.Births.{NewLaw}
 
 -- an end on which no call was made is in session 1 as at first
 new_end : IsNewEnd 1 []

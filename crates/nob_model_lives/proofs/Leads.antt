@@ -28,6 +28,10 @@ leads_on P Q D first further =
     let next = further (first.0 ++ D) first.1 in
     (next.0 ++ first.0, subst Q (sym (append_assoc next.0 first.0 D)) next.1)
 
+-- to what something weaker holds of
+pub leads_as : (P Q : List Deed → Type 0) (D : List Deed) → ((E : List Deed) → P E → Q E) → Leads P D → Leads Q D
+leads_as P Q D step lead = (lead.0, step (lead.0 ++ D) lead.1)
+
 -- right deeds behind what right entries did are what right entries behind these did
 pub entries_behind : (s n : ℕ) (limits : Limits) (L : List Entry) → AreRight s n limits L → (B : List Deed) → AreRightDeeds s n limits (B ++ deeds L) → (bridge : List Entry) × AreRight s n limits (bridge ++ L) × (deeds (bridge ++ L) ≡ B ++ deeds L)
 entries_behind s n limits L right [] are = ([], right, refl)
