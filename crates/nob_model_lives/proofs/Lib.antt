@@ -5,3 +5,10 @@ pub mod Up
 pub mod Shown
 pub mod Closes
 pub mod Finishes
+pub mod Anys
+pub mod Matched
+pub mod Few
+pub mod Read
+pub mod Alive
+pub mod Releases
+pub mod Takes
