@@ -12,3 +12,6 @@ pub mod Read
 pub mod Alive
 pub mod Releases
 pub mod Takes
+pub mod Still
+pub mod Withdraws
+pub mod Skips
