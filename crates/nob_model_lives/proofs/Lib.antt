@@ -15,3 +15,5 @@ pub mod Takes
 pub mod Still
 pub mod Withdraws
 pub mod Skips
+pub mod Opens
+pub mod Born
