@@ -17,3 +17,5 @@ pub mod Withdraws
 pub mod Skips
 pub mod Opens
 pub mod Born
+pub mod Passes
+pub mod Bridge
