@@ -1,4 +1,5 @@
 pub mod Begin
+pub mod Cases
 pub mod Leads
 pub mod Peers
 pub mod Up
