@@ -1,6 +1,6 @@
 -- The bridge, as a whole.
 use Rattle.std.proofs.Common.{◌≡◌, ℕ, ◌+◌, ◌-◌, ◌≤◌, ◌<◌, max, Bool, true, false, cond, List, refl, sym, ap, subst, ◌∙◌, arith, ◌⊎◌, inl, inr}
-use Rattle.std.specs.Prelude.{◌==◌}
+use Rattle.std.specs.Prelude.{◌*◌, ◌==◌}
 use Rattle.std.proofs.lemmas.Bool.{eqb-true}
 use Rattle.nob_ids.specs.declared.limits.Limits.{Limits}
 use Rattle.nob_model_session.specs.End.{last_session, seen}
@@ -12,6 +12,7 @@ use Rattle.nob_model_types.specs.Sessions.{is_peer, number}
 use Rattle.nob_model_history.specs.Histories.{history}
 use Rattle.nob_model_history.specs.Ends.{calls_at}
 use Rattle.nob_model.specs.Right.{last_number, calls_made, jobs_made}
+use Rattle.nob_model.specs.Opening.{next_number}
 use Rattle.nob_model.specs.Lists.{AreRight}
 use Rattle.nob_model.proofs.Doing.{right_deeds}
 use Rattle.nob_model_lives.specs.Births.{Birth}
@@ -20,22 +21,12 @@ use Rattle.nob_model_lives.proofs.Leads.{Leads, leads_on}
 use Rattle.nob_model_lives.proofs.Shown.{Shown, shown_by}
 use Rattle.nob_model_lives.proofs.Still.{AreGone}
 use Rattle.nob_model_lives.proofs.Withdraws.{Waits}
-use Rattle.nob_model_lives.proofs.Opens.{with_number, next_of}
+use Rattle.nob_model_lives.proofs.Opens.{next_of}
 use Rattle.nob_model_lives.proofs.Born.{Reaches, HasWords, open_all, rest_all, reach_none, born_behind}
-use Rattle.nob_model_lives.proofs.Passes.{more_calls, more_called, pass_calls}
+use Rattle.nob_model_lives.proofs.Passes.{AfterCalls, pass_many}
 
--- the next number of the session with a peer after one was passed over
-passed_next : (p q : ℕ) (x : Shown) (wanted : ℕ) → next_of x q ≤ wanted → ((p == q) ≡ true → next_of x q < wanted) → next_of (with_number p (next_of x p) x) q ≤ wanted
-passed_next p q x wanted low above = elim (p == q) as (λ (b : Bool). (p == q) ≡ b → max (cond b (next_of x p) (x.given q) + 1) (x.heard q) ≤ wanted) [
-  | true ↦ λ same. (let less = above same in let one : next_of x p ≡ next_of x q = ap (next_of x) (eqb-true p q same) in higher (x.given q) (x.heard q) (next_of x p) wanted one less)
-  | false ↦ λ other. low
-] refl
-  where
-    higher : (given heard next wanted : ℕ) → next ≡ max (given + 1) heard → max (given + 1) heard < wanted → max (next + 1) heard ≤ wanted
-    higher given heard next wanted is less = omega (arith, is, less)
-
-few_of : (made wanted most : ℕ) → wanted ≤ made + most → wanted - made ≤ most
-few_of made wanted most few = omega (arith, few)
+less_of : (made wanted most : ℕ) → wanted ≤ made + most → wanted - made ≤ most
+less_of made wanted most few = omega (arith, few)
 
 sum_of : (made wanted : ℕ) → made ≤ wanted → made + (wanted - made) ≡ wanted
 sum_of made wanted low = omega (arith, low)
@@ -43,8 +34,8 @@ sum_of made wanted low = omega (arith, low)
 room_of : (made wanted last : ℕ) → made ≤ wanted → wanted ≤ last → made + (wanted - made) ≤ last
 room_of made wanted last low most = omega (arith, low, most)
 
-less_most : (a b c : ℕ) → a < b → b ≤ c → a ≤ c
-less_most a b c less most = omega (arith, less, most)
+at_most : (a b c : ℕ) → a ≤ b → b ≡ c → a ≤ c
+at_most a b c low same = omega (arith, low, same)
 
 module _ (s n : ℕ) (limits : Limits) (birth : Birth) (L : List Entry) (right : AreRight s n limits L) (can : CanBeBorn s n birth L) where
   abbrev shown : Shown
@@ -58,16 +49,18 @@ module _ (s n : ℕ) (limits : Limits) (birth : Birth) (L : List Entry) (right :
   reach_calls E waits gone (inl exact) = reach_none s n limits birth shown E waits gone can.indexes can.last_index (sym exact) can.jobs next_low
   reach_calls E waits gone (inr with_peer) =
       let p : ℕ = with_peer.0 in
+      let passes : ℕ = birth.session p - next_of shown p in
       let m : ℕ = birth.calls - calls_made (deeds L) in
-      let y : Shown = with_number p (next_of shown p) shown in
-      let more = more_called m y in
-      let less : next_of shown p < birth.session p = with_peer.2 in
-      leads_on (λ F. Waits s n limits (more_calls m y) F × AreGone s F) (Reaches s n limits birth 0) E
-      (pass_calls s n limits p m shown E with_peer.1 (less_most (next_of shown p) (birth.session p) last_session less (can.sessions p with_peer.1).1) (few_of (calls_made (deeds L)) birth.calls queue_limit can.few_calls) (room_of (calls_made (deeds L)) birth.calls last_number can.calls can.last_call) waits)
-      (λ F its. reach_none s n limits birth (more_calls m y) F its.0 its.1
-      (subst (λ (k : ℕ). k ≤ birth.indexes) (sym more.1) can.indexes) can.last_index
-      (more.0 ∙ sum_of (calls_made (deeds L)) birth.calls can.calls) (more.2 ∙ can.jobs)
-      (λ q peer. subst (λ (k : ℕ). k ≤ birth.session q) (sym (more.3 q)) (passed_next p q shown (birth.session q) (next_low q peer) (λ is. subst (λ (r : ℕ). next_of shown r < birth.session r) (eqb-true p q is) less))))
+      let low : next_of shown p ≤ birth.session p = next_low p with_peer.1 in
+      leads_on (AfterCalls s n limits p m passes shown) (Reaches s n limits birth 0) E
+      (pass_many s n limits p passes m shown E with_peer.1 (room_of (next_of shown p) (birth.session p) last_session low (can.sessions p with_peer.1).1) (less_of (calls_made (deeds L)) birth.calls (queue_limit * passes) with_peer.2) (room_of (calls_made (deeds L)) birth.calls last_number can.calls can.last_call) waits gone)
+      (λ F after. reach_none s n limits birth after.0 F after.2 after.3
+      (subst (λ (k : ℕ). k ≤ birth.indexes) (sym after.1.indexes) can.indexes) can.last_index
+      (after.1.calls ∙ sum_of (calls_made (deeds L)) birth.calls can.calls) (after.1.jobs ∙ can.jobs)
+      (λ q peer. elim (p == q) as (λ (b : Bool). (p == q) ≡ b → next_of after.0 q ≤ birth.session q) [
+        | true ↦ λ same. subst (λ (r : ℕ). next_of after.0 r ≤ birth.session r) (eqb-true p q same) (at_most (next_of after.0 p) (next_of shown p + passes) (birth.session p) after.1.next (sum_of (next_of shown p) (birth.session p) low))
+        | false ↦ λ other. subst (λ (k : ℕ). k ≤ birth.session q) (sym (after.1.others q other)) (next_low q peer)
+      ] refl))
 
   bridge_deeds : Leads (HasWords s n limits birth) (deeds L)
   bridge_deeds =
@@ -79,12 +72,19 @@ module _ (s n : ℕ) (limits : Limits) (birth : Birth) (L : List Entry) (right :
 pub bridge_law : BridgeLaw
 bridge_law s n limits birth L right can = born_behind s n limits birth L right (bridge_deeds s n limits birth L right can)
 
-next_below : (given heard bound : ℕ) → given ≤ bound → heard ≤ bound → max (given + 1) heard < bound + 2
+next_below : (given heard bound : ℕ) → given ≤ bound → heard ≤ bound → max (given + 1) heard ≤ bound + 2
 next_below given heard bound one two = omega (arith, one, two)
+
+one_passed : (given heard bound : ℕ) → given ≤ bound → heard ≤ bound → 1 ≤ (bound + 2) - max (given + 1) heard
+one_passed given heard bound one two = omega (arith, one, two)
+
+more_of : (passes made wanted : ℕ) → 1 ≤ passes → wanted ≤ made + queue_limit → wanted ≤ made + queue_limit * passes
+more_of passes made wanted some few = omega (arith, some, few)
 
 calls_behind : (s n : ℕ) (bounds : Bounds) (jobs : ℕ) (L : List Entry) → Cover s n bounds L → (bounds.calls ≡ calls_made (deeds L)) ⊎ ((p : ℕ) × (is_peer s n p ≡ true)) → CanPassCalls s n (birth_behind bounds jobs) L
 calls_behind s n bounds jobs L cover (inl exact) = inl exact
-calls_behind s n bounds jobs L cover (inr peer) = inr (peer.0, peer.1, next_below (number peer.0 (deeds L)) (seen (calls_at peer.0 (history s n L))) (bounds.session peer.0) (cover.sessions peer.0 peer.1) (cover.heard peer.0 peer.1))
+calls_behind s n bounds jobs L cover (inr peer) =
+    inr (peer.0, peer.1, more_of ((bounds.session peer.0 + 2) - next_number peer.0 (history s n L)) (calls_made (deeds L)) bounds.calls (one_passed (number peer.0 (deeds L)) (seen (calls_at peer.0 (history s n L))) (bounds.session peer.0) (cover.sessions peer.0 peer.1) (cover.heard peer.0 peer.1)) cover.few_calls)
 
 -- bounds that cover what was shown, and leave room, are those of a birth to which a space can be brought
 pub behind_bounds : (s n : ℕ) (bounds : Bounds) (L : List Entry) → Cover s n bounds L → LeaveRoom s n bounds L → CanBeBorn s n (birth_behind bounds (jobs_made (deeds L))) L
@@ -92,11 +92,10 @@ behind_bounds s n bounds L cover room = record {
   indexes = cover.indexes;
   last_index = room.indexes;
   calls = cover.calls;
-  few_calls = cover.few_calls;
   last_call = room.calls;
   pass_calls = calls_behind s n bounds (jobs_made (deeds L)) L cover room.peer;
   jobs = refl;
-  sessions = λ p peer. ((let less = next_below (number p (deeds L)) (seen (calls_at p (history s n L))) (bounds.session p) (cover.sessions p peer) (cover.heard p peer) in omega (arith, less)), room.sessions p peer);
+  sessions = λ p peer. (next_below (number p (deeds L)) (seen (calls_at p (history s n L))) (bounds.session p) (cover.sessions p peer) (cover.heard p peer), room.sessions p peer);
 }
 
 -- so behind every list of right entries there are entries after which the space is born behind such bounds

@@ -165,7 +165,8 @@ module _ (s n : ℕ) (limits : Limits) (p : ℕ) where
         ),
       )
 
-  rises : (x : Shown) → next_of (with_number p (next_of x p) x) p ≡ next_of x p + 1
+  -- the next number is one higher then
+  pub rises : (x : Shown) → next_of (with_number p (next_of x p) x) p ≡ next_of x p + 1
   rises x = ap (λ (b : Bool). max (cond b (next_of x p) (x.given p) + 1) (x.heard p)) (eq-eqb p p refl) ∙ above (x.given p) (x.heard p)
     where
       above : (given heard : ℕ) → max (max (given + 1) heard + 1) heard ≡ max (given + 1) heard + 1

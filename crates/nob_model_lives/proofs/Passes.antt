@@ -1,6 +1,6 @@
 -- Calls are passed over: a session opens, calls are made in it, and it closes before anything was transmitted.
-use Rattle.std.proofs.Common.{◌≡◌, ℕ, zero, suc, ◌+◌, ◌-◌, ◌≤◌, ◌<◌, ◌&&◌, not, Bool, true, false, cond, List, [], ◌∷◌, length, map, drop, Option, Some, None, Ok, Err, refl, ap, subst, ◌∙◌, arith}
-use Rattle.std.specs.Prelude.{nat_le}
+use Rattle.std.proofs.Common.{◌≡◌, ℕ, zero, suc, ◌+◌, ◌-◌, ◌≤◌, ◌<◌, ◌&&◌, not, max, Bool, true, false, cond, List, [], ◌∷◌, length, map, drop, Option, Some, None, Ok, Err, refl, ap, subst, ◌∙◌, arith}
+use Rattle.std.specs.Prelude.{◌*◌, ◌==◌, min, nat_le}
 use Rattle.std.proofs.lemmas.List.{length-append}
 use Rattle.std.proofs.lemmas.Bool.{eq-eqb, or_from, leb-true, not_from_true, not_from_false, false_from_ne_true}
 use Rattle.nob_ids.specs.Names.{is_counted}
@@ -42,7 +42,7 @@ use Rattle.nob_model.specs.Opening.{next_number}
 use Rattle.nob_model.specs.Right.{most_calls, last_number, right_after, right_call, is_last_call, calls_made, jobs_made}
 use Rattle.nob_model.specs.Lists.{IsRightDeed, AreRightDeeds}
 use Rattle.nob_model_lives.proofs.Leads.{Leads, stays, leads_by, leads_on, leads_as}
-use Rattle.nob_model_lives.proofs.Opens.{open_right, open_shows, with_number, next_of, next_shown}
+use Rattle.nob_model_lives.proofs.Opens.{open_right, open_shows, with_number, next_of, next_shown, rises}
 use Rattle.nob_model_lives.proofs.Shown.{Shown, shown_by}
 use Rattle.nob_model_lives.proofs.Still.{AreGone}
 use Rattle.nob_model_lives.proofs.Withdraws.{Waits}
@@ -208,3 +208,90 @@ module _ (s n : ℕ) (limits : Limits) (p : ℕ) where
       (λ F two. leads_as (λ G. Waits s n limits (shown_by s n F) G × AreGone s G) (λ G. Waits s n limits (more_calls m y) G × AreGone s G) F
       (λ G three. (subst (λ (z : Shown). Waits s n limits z G) two.shows three.0, three.1))
       (rest_all s n limits F two.right)))
+
+  -- ---- in several numbers
+
+  -- so many calls were passed over in so many numbers of the session with p at most
+  pub record HasPassed (m passes : ℕ) (x y : Shown) : Type 0 where
+    pub indexes : y.indexes ≡ x.indexes
+    pub calls : y.calls ≡ x.calls + m
+    pub jobs : y.jobs ≡ x.jobs
+    pub others : (q : ℕ) → (p == q) ≡ false → next_of y q ≡ next_of x q
+    pub next : next_of y p ≤ next_of x p + passes
+
+  -- a space at rest that passed them over
+  abbrev pub AfterCalls : (m passes : ℕ) → Shown → List Deed → Type 0
+  AfterCalls m passes x E = (y : Shown) × HasPassed m passes x y × Waits s n limits y E × AreGone s E
+
+  passed_one : (m : ℕ) (x : Shown) → HasPassed m 1 x (more_calls m (with_number p (next_of x p) x))
+  passed_one m x =
+      let more = more_called m (with_number p (next_of x p) x) in record {
+        indexes = more.1;
+        calls = more.0;
+        jobs = more.2;
+        others = λ q other. more.3 q ∙ ap (λ (b : Bool). max (cond b (next_of x p) (x.given q) + 1) (x.heard q)) other;
+        next = at_most (more.3 p ∙ rises s n limits p x);
+      }
+    where
+      at_most : {a b : ℕ} → a ≡ b → a ≤ b
+      at_most same = omega (arith, same)
+
+  passed_both : (m more passes : ℕ) (x y z : Shown) → HasPassed m 1 x y → HasPassed more passes y z → HasPassed (m + more) (suc passes) x z
+  passed_both m more passes x y z one rest = record {
+    indexes = rest.indexes ∙ one.indexes;
+    calls = sum x.calls y.calls z.calls one.calls rest.calls;
+    jobs = rest.jobs ∙ one.jobs;
+    others = λ q other. rest.others q other ∙ one.others q other;
+    next = low (next_of x p) (next_of y p) (next_of z p) one.next rest.next;
+  }
+    where
+      sum : (a b c : ℕ) → b ≡ a + m → c ≡ b + more → c ≡ a + (m + more)
+      sum a b c first second = omega (arith, first, second)
+
+      low : (a b c : ℕ) → b ≤ a + 1 → c ≤ b + passes → c ≤ a + suc passes
+      low a b c first second = omega (arith, first, second)
+
+  none_more : (m : ℕ) → m ≤ queue_limit * 0 → m ≡ 0
+  none_more m few = omega (arith, few)
+
+  -- as many as one session can have, or all
+  abbrev first_of : ℕ → ℕ
+  first_of m = min m queue_limit
+
+  first_low : (m : ℕ) → first_of m ≤ queue_limit
+  first_low m = omega arith
+
+  both_all : (m : ℕ) → first_of m + (m - first_of m) ≡ m
+  both_all m = omega arith
+
+  rest_low : (m passes : ℕ) → m ≤ queue_limit * suc passes → m - first_of m ≤ queue_limit * passes
+  rest_low m passes few = omega (arith, few)
+
+  first_room : (a m last : ℕ) → a + m ≤ last → a + first_of m ≤ last
+  first_room a m last room = omega (arith, room)
+
+  rest_room : (a b m last : ℕ) → b ≡ a + first_of m → a + m ≤ last → b + (m - first_of m) ≤ last
+  rest_room a b m last same room = omega (arith, same, room)
+
+  next_room : (a passes last : ℕ) → a + suc passes ≤ last → a ≤ last
+  next_room a passes last room = omega (arith, room)
+
+  later_room : (a b passes last : ℕ) → b ≤ a + 1 → a + suc passes ≤ last → b + passes ≤ last
+  later_room a b passes last low room = omega (arith, low, room)
+
+  -- calls are passed over in several numbers
+  pub pass_many : (passes m : ℕ) (x : Shown) (D : List Deed) → is_peer s n p ≡ true → next_of x p + passes ≤ last_session → m ≤ queue_limit * passes → x.calls + m ≤ last_number → Waits s n limits x D → AreGone s D → Leads (AfterCalls m passes x) D
+  pass_many zero m x D peer room few last its gone =
+      let none = none_more m few in
+      stays (AfterCalls m zero x) D (x, record { indexes = refl; calls = none_added x.calls none; jobs = refl; others = λ q other. refl; next = omega arith }, its, gone)
+    where
+      none_added : (a : ℕ) → m ≡ 0 → a ≡ a + m
+      none_added a none = omega (arith, none)
+  pass_many (suc passes) m x D peer room few last its gone =
+      let y : Shown = more_calls (first_of m) (with_number p (next_of x p) x) in
+      let one : HasPassed (first_of m) 1 x y = passed_one (first_of m) x in
+      leads_on (λ E. Waits s n limits y E × AreGone s E) (AfterCalls m (suc passes) x) D
+      (pass_calls (first_of m) x D peer (next_room (next_of x p) passes last_session room) (first_low m) (first_room x.calls m last_number last) its)
+      (λ E here. leads_as (AfterCalls (m - first_of m) passes y) (AfterCalls m (suc passes) x) E
+      (λ F after. (after.0, subst (λ (k : ℕ). HasPassed k (suc passes) x after.0) (both_all m) (passed_both (first_of m) (m - first_of m) passes x y after.0 one after.1), after.2, after.3))
+      (pass_many passes (m - first_of m) y E peer (later_room (next_of x p) (next_of y p) passes last_session one.next room) (rest_low m passes few) (rest_room x.calls y.calls m last_number one.calls last) here.0 here.1))

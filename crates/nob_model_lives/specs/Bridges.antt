@@ -1,7 +1,7 @@
 -- Bridges: entries that lead from any list of right entries to a birth. Each is an event that needs nobody else, and its
 -- right answer: a session closes, a job ends, a reply is taken, a hold is given back, an object is withdrawn, a call is made
 -- that goes nowhere, a session opens anew.
-use Rattle.std.specs.Prelude.{◌≡◌, ◌≤◌, ◌<◌, ◌⊎◌, ℕ, ◌+◌, true, List, ◌++◌, length}
+use Rattle.std.specs.Prelude.{◌≡◌, ◌≤◌, ◌⊎◌, ℕ, ◌+◌, ◌-◌, ◌*◌, true, List, ◌++◌, length}
 use Rattle.nob_ids.specs.declared.limits.Limits.{Limits}
 use Rattle.nob_model_session.specs.End.{last_session, seen}
 use Rattle.nob_model_session.specs.Right.{queue_limit}
@@ -16,18 +16,17 @@ use Rattle.nob_model.specs.Right.{last_number, calls_made, jobs_made}
 use Rattle.nob_model.specs.Lists.{AreRight}
 use Rattle.nob_model_lives.specs.Births.{Birth, IsBorn}
 
--- calls are passed over only with a peer, in a session number that is passed over before the last
+-- no call is passed over, or all are with one peer: as many as one session can have unacknowledged in each number that is passed over before the last
 abbrev pub CanPassCalls : (s n : ℕ) → Birth → List Entry → Type 0
-CanPassCalls s n birth L = (birth.calls ≡ calls_made (deeds L)) ⊎ ((p : ℕ) × (is_peer s n p ≡ true) × (next_number p (history s n L) < birth.session p))
+CanPassCalls s n birth L = (birth.calls ≡ calls_made (deeds L)) ⊎ ((p : ℕ) × (is_peer s n p ≡ true) × (birth.calls ≤ calls_made (deeds L) + queue_limit * (birth.session p - next_number p (history s n L))))
 
 -- a space can be brought to a birth by its own events: no number of the birth is below what was given, heard or used, and none above its limit; as many jobs were claimed
 pub record CanBeBorn (s n : ℕ) (birth : Birth) (L : List Entry) : Type 0 where
   -- indexes can be passed over
   pub indexes : length (exports (deeds L)) ≤ birth.indexes
   pub last_index : birth.indexes ≤ last_number
-  -- so can calls, as many as one session can have unacknowledged
+  -- so can calls, with a peer
   pub calls : calls_made (deeds L) ≤ birth.calls
-  pub few_calls : birth.calls ≤ calls_made (deeds L) + queue_limit
   pub last_call : birth.calls ≤ last_number
   pub pass_calls : CanPassCalls s n birth L
   -- a job can't be passed over
@@ -45,7 +44,7 @@ pub record Bounds : Type 0 where
   pub calls : ℕ
   pub session : ℕ → ℕ
 
--- bounds cover what a space showed: no index, call or session number that it gave is above them, and no session number that it heard; at most as many calls are passed over as one session can have
+-- bounds cover what a space showed: no index, call or session number that it gave is above them, and no session number that it heard; and no more calls are left between than one session can have unacknowledged
 pub record Cover (s n : ℕ) (bounds : Bounds) (L : List Entry) : Type 0 where
   pub indexes : length (exports (deeds L)) ≤ bounds.indexes
   pub calls : calls_made (deeds L) ≤ bounds.calls
