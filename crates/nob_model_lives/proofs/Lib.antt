@@ -16,6 +16,7 @@ pub mod Takes
 pub mod Still
 pub mod Withdraws
 pub mod Skips
+pub mod Unused
 pub mod Opens
 pub mod Born
 pub mod Passes

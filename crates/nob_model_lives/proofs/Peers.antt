@@ -1,11 +1,13 @@
 -- In every list of right deeds all that comes from outside comes from peers, and all that is sent goes to peers.
-use Rattle.std.proofs.Common.{◌≡◌, ℕ, ◌≤◌, ◌&&◌, not, Bool, true, false, cond, List, [], ◌∷◌, ◌++◌, filter, Option, Some, None, refl, sym, ap, subst, ◌∙◌}
+use Rattle.std.proofs.Common.{◌≡◌, ℕ, ◌≤◌, ◌&&◌, not, Bool, true, false, cond, List, [], ◌∷◌, ◌++◌, map, filter, Option, Some, None, refl, sym, ap, subst, ◌∙◌}
 use Rattle.std.specs.Prelude.{◌==◌, nat_le}
 use Rattle.std.specs.List.{AllByRecursion}
-use Rattle.std.proofs.lemmas.Bool.{eqb-true, and_parts, leb-true, both_ways, false_from_ne_true}
+use Rattle.std.proofs.lemmas.Bool.{eqb-true, ne_eqb, and_parts, leb-true, both_ways, false_from_ne_true}
 use Rattle.nob_ids.specs.Names.{is_same}
 use Rattle.nob_ids.specs.declared.limits.Limits.{Limits}
 use Rattle.nob_ids.specs.declared.wire_rep.WireRep.{WireRep}
+use Rattle.nob_frame.specs.declared.frame.Frame.{Frame}
+use Rattle.nob_model_session.specs.declared.entry.EndEntry.{EndEntry}
 use Rattle.nob_item.specs.declared.item.Item.{Item}
 use Rattle.nob_item.specs.declared.item.Item.TheVariants as items
 use Rattle.nob_model_types.specs.declared.deed.Deed.{Deed}
@@ -20,15 +22,17 @@ use Rattle.nob_model_work.specs.Work.{work}
 use Rattle.nob_model_work.specs.Gifts.{gifts, gifts_of}
 use Rattle.nob_model_history.specs.declared.transit.SentItem.{SentItem}
 use Rattle.nob_model_history.specs.Histories.{history_of}
+use Rattle.nob_model_history.specs.Ends.{items_to, with_sends, own_calls, calls_at}
 use Rattle.nob_model_history.specs.Transit.{next_sent, sent, is_pinned, is_settled, is_some_of, is_of_present, bundles}
 use Rattle.nob_model_history.specs.Listing.{is_entered, is_entered_after, is_listed}
 use Rattle.nob_item.specs.Kinds.{counted_in}
 use Rattle.nob_model_history.proofs.Sending.{new_items, sent_more}
 use Rattle.nob_model.specs.Right.{right_after}
 use Rattle.nob_model.specs.Lists.{IsRightDeed, AreRightDeeds}
-use Rattle.nob_model.proofs.Accepted.{act_tells}
+use Rattle.nob_model.proofs.Accepted.{act_tells, transmit_tells, arrive_tells, tick_tells, open_tells}
 use Rattle.nob_model.proofs.Carrying.{AllOutstanding}
 use Rattle.nob_model.proofs.Doing.{was_answered}
+use Rattle.nob_model.proofs.Orderly.{closing_peer}
 use Rattle.nob_model_holdings.proofs.Lists.{all_append, all_pass}
 use Rattle.nob_model_holdings.proofs.Hands.{New, outstanding_more}
 
@@ -176,3 +180,55 @@ strangers_unasked s n limits rep (did.Act p k ∷ D) right stranger = unasked_it
 strangers_unasked s n limits rep (did.Clean other ∷ D) right stranger = cleaned_if (is_same rep other) (turns s n rep D) (strangers_unasked s n limits rep D right.1 stranger)
 strangers_unasked s n limits rep (did.Open q k ∷ D) right stranger = opened_if (q == rep.owner) (turns s n rep D) (strangers_unasked s n limits rep D right.1 stranger)
 strangers_unasked s n limits rep (deed ∷ D) right stranger = strangers_unasked s n limits rep D right.1 stranger
+
+-- ---- the ends with others
+
+to_none : (s n p : ℕ) (gift : Gift) (kept : List Gift) → is_peer s n p ≡ false → items_to p kept ≡ [] → (peer : Bool) → is_peer s n gift.to ≡ peer → items_to p (cond peer (gift ∷ kept) kept) ≡ []
+to_none s n p gift kept stranger none false e = none
+to_none s n p gift kept stranger none true e =
+    ap (λ (b : Bool). map (λ (g : Gift). g.item) (cond b (gift ∷ filter (λ (g : Gift). g.to == p) kept) (filter (λ (g : Gift). g.to == p) kept))) (ne_eqb gift.to p (λ same. both_ways (is_peer s n p) stranger (subst (λ (q : ℕ). is_peer s n q ≡ true) same e)))
+    ∙ none
+
+none_to : (s n p : ℕ) → is_peer s n p ≡ false → (more : List Gift) → items_to p (filter (λ (gift : Gift). is_peer s n gift.to) more) ≡ []
+none_to s n p stranger [] = refl
+none_to s n p stranger (gift ∷ more) = to_none s n p gift (filter (λ (g : Gift). is_peer s n g.to) more) stranger (none_to s n p stranger more) (is_peer s n gift.to) refl
+
+no_call : (own : Bool) (call : EndEntry) (calls : List EndEntry) → own ≡ false → calls ≡ [] → cond own (call ∷ calls) calls ≡ []
+no_call true call calls not none = cc
+no_call false call calls not none = none
+
+not_peer : (s n p q : ℕ) → is_peer s n p ≡ false → is_peer s n q ≡ true → (q == p) ≡ false
+not_peer s n p q stranger peer = ne_eqb q p (λ same. both_ways (is_peer s n p) stranger (subst (λ (r : ℕ). is_peer s n r ≡ true) same peer))
+
+transmit_peer : (s n : ℕ) (limits : Limits) (p : ℕ) (frames : List Frame) (D : List Deed) → IsRightDeed s n limits (did.Transmit p frames) D → is_peer s n p ≡ true
+unfolding right_after
+transmit_peer s n limits p frames D right = (transmit_tells s n p limits.window frames (history_of s n D) (was_answered s n limits (did.Transmit p frames) D right)).0
+
+arrive_peer : (s n : ℕ) (limits : Limits) (frame : Frame) (count : ℕ) (D : List Deed) → IsRightDeed s n limits (did.Arrive frame count) D → is_peer s n frame.from ≡ true
+unfolding right_after
+arrive_peer s n limits frame count D right = (arrive_tells s n count frame (history_of s n D) (was_answered s n limits (did.Arrive frame count) D right)).1
+
+tick_peer : (s n : ℕ) (limits : Limits) (p : ℕ) (D : List Deed) → IsRightDeed s n limits (did.Tick p) D → is_peer s n p ≡ true
+unfolding right_after
+tick_peer s n limits p D right = (tick_tells s n p limits.retry (history_of s n D) (was_answered s n limits (did.Tick p) D right)).0
+
+open_peer : (s n : ℕ) (limits : Limits) (p k : ℕ) (D : List Deed) → IsRightDeed s n limits (did.Open p k) D → is_peer s n p ≡ true
+unfolding right_after
+open_peer s n limits p k D right = (open_tells s n p k (history_of s n D) (was_answered s n limits (did.Open p k) D right)).0
+
+own_none : (s n : ℕ) (limits : Limits) (p : ℕ) (deed : Deed) (D : List Deed) (calls : List EndEntry) → IsRightDeed s n limits deed D → is_peer s n p ≡ false → calls ≡ [] → own_calls p deed calls ≡ []
+own_none s n limits p (did.Act q k) D calls right stranger none = no_call (q == p) _ calls (not_peer s n p q stranger (act_peer s n limits q k D right)) none
+own_none s n limits p (did.Transmit q frames) D calls right stranger none = no_call (q == p) _ calls (not_peer s n p q stranger (transmit_peer s n limits q frames D right)) none
+own_none s n limits p (did.Arrive frame count) D calls right stranger none = no_call (frame.from == p) _ calls (not_peer s n p frame.from stranger (arrive_peer s n limits frame count D right)) none
+own_none s n limits p (did.Tick q) D calls right stranger none = no_call (q == p) _ calls (not_peer s n p q stranger (tick_peer s n limits q D right)) none
+own_none s n limits p (did.Closing q reason cause) D calls right stranger none = no_call (q == p) _ calls (not_peer s n p q stranger (closing_peer s n limits q reason cause D right)) none
+own_none s n limits p (did.Open q k) D calls right stranger none = no_call (q == p) _ calls (not_peer s n p q stranger (open_peer s n limits q k D right)) none
+own_none s n limits p deed D calls right stranger none = none
+
+-- no call was made on the end with a space that is no peer
+pub strangers_uncalled : (s n : ℕ) (limits : Limits) (p : ℕ) (D : List Deed) → AreRightDeeds s n limits D → is_peer s n p ≡ false → calls_at p (history_of s n D) ≡ []
+unfolding gifts
+strangers_uncalled s n limits p [] right stranger = refl
+strangers_uncalled s n limits p (deed ∷ D) right stranger =
+    own_none s n limits p deed D (with_sends (items_to p (gifts s n deed D (work s n D))) (calls_at p (history_of s n D))) right.0 stranger
+    (ap (λ (sends : List Item). with_sends sends (calls_at p (history_of s n D))) (none_to s n p stranger (gifts_of s n deed D (work s n D))) ∙ strangers_uncalled s n limits p D right.1 stranger)

@@ -49,7 +49,8 @@ exported_by : (rep : WireRep) (full : Bool) → full ≡ false → deed_by event
 exported_by rep true room = cc
 exported_by rep false room = refl
 
-not_above : (bound count : ℕ) → count < bound → nat_le bound count ≡ false
+-- a count below a bound
+pub not_above : (bound count : ℕ) → count < bound → nat_le bound count ≡ false
 not_above bound count low = false_from_ne_true (nat_le bound count) (λ over. let above = leb-true bound count over in omega (arith, above, low))
 
 module _ (s n : ℕ) (limits : Limits) (D : List Deed) where
