@@ -1,0 +1,17 @@
+pub use Rattle.nob_ids.specs.Names
+pub use Rattle.nob_model_types.specs.Deeds
+pub use Rattle.nob_model_types.specs.Sessions
+pub use Rattle.nob_model_types.specs.Objects
+pub use Rattle.nob_model_types.specs.Turns
+pub use Rattle.nob_model_work.specs.Work
+pub use Rattle.nob_model_history.specs.Histories
+pub use Rattle.nob_model_history.specs.Ends
+pub use Rattle.nob_model_history.specs.Holds
+pub use Rattle.nob_model_history.specs.Transit
+pub use Rattle.nob_model_history.specs.Listing
+pub use Rattle.nob_model_history.specs.Anew
+pub use Rattle.nob_model.specs.Right
+pub use Rattle.nob_model.specs.Lists
+pub use Rattle.nob_model.specs.Opening
+pub mod Births
+pub mod Bridges
