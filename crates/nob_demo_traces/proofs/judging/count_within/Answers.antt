@@ -34,3 +34,18 @@ loop-place-preserved c =
     let more : count_of chain.segments i + length x.entries ≡ count_within (i + 1) chain = count_more chain.segments i x there in
     let least = c.loop-place.invariant.1 in
     (omega (arith, passed, long, more), omega (arith, least))
+
+pub returns-then-place-number : goal.returns-then-place-number
+returns-then-place-number c =
+    let least = c.loop-place.invariant.1 in
+    let past = c.if-place-number.true in
+    let all : c.loop-place.place ≡ c.args.number = omega (arith, least, past) in
+    c.loop-place.invariant.0 ∙ ap (λ (k : ℕ). count_within k c.args.chain.now) all
+
+pub returns : goal.returns
+returns c =
+    let chain = c.args.chain.now in
+    let i = c.loop-place.place in
+    let are : c.as_slice-segment-items.result.now ≡ chain.segments = c.as_slice-segment-items.ensures ∙ ap (λ (p : ChainParts). p.segments) c.parts.ensures in
+    let all : length c.as_slice-segment-items.result.now ≤ i = c.loop-place-test.false in
+    c.loop-place.invariant.0 ∙ counted_all chain c.args.number i c.loop-place.invariant.1 (subst (λ (xs : List Segment). length xs ≤ i) are all)
