@@ -19,13 +19,14 @@ pub(crate) fn new_keeper(alloc: Global, id: SpaceId) -> Option<Keeper> {
     }
 }
 
-/// The same with segments of so many entries. A size that no segment may have is refused first.
+/// The same with segments of so many entries. Sizes that no segment may have must be refused.
 pub(crate) fn with_segments(alloc: Global, id: SpaceId, size: u32) -> Option<Keeper> {
+    if !refuses(alloc, id, 0) || !refuses(alloc, id, 65_537) {
+        return None;
+    }
     let Ok(space) = Space::new(alloc, id, 2, Limits::default()) else {
         return None;
     };
-    let space = refused(alloc, space, 0)?;
-    let space = refused(alloc, space, 65_537)?;
     match Keeper::with_segment(alloc, space, size) {
         Ok(keeper) => Some(keeper),
         Err((_, space)) => {
@@ -35,17 +36,19 @@ pub(crate) fn with_segments(alloc: Global, id: SpaceId, size: u32) -> Option<Kee
     }
 }
 
-// A new space that is handed back, since no segment may have so many entries.
-fn refused(alloc: Global, space: Space, size: u32) -> Option<Space> {
+// Whether a new space is handed back, since no segment may have so many entries.
+fn refuses(alloc: Global, id: SpaceId, size: u32) -> bool {
+    let Ok(space) = Space::new(alloc, id, 2, Limits::default()) else {
+        return false;
+    };
     match Keeper::with_segment(alloc, space, size) {
         Ok(keeper) => {
             keeper.shut();
-            None
+            false
         }
-        Err((KeeperError::Size, space)) => Some(space),
-        Err((_, space)) => {
+        Err((error, space)) => {
             space.shut();
-            None
+            error == KeeperError::Size
         }
     }
 }
