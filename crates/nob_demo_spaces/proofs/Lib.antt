@@ -7,3 +7,5 @@ pub mod Taken
 pub mod Within
 pub mod Commands
 pub mod Saying
+pub mod Each
+pub mod Scoring

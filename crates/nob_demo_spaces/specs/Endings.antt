@@ -1,5 +1,5 @@
 -- What is written of a scene, and how it ends.
-use Rattle.std.specs.Prelude.{◌≡◌, ℕ, Bool, true, false, List, length, reverse, All, codes, Option, Some, None}
+use Rattle.std.specs.Prelude.{◌≡◌, ◌≢◌, ℕ, Bool, true, false, List, length, map, reverse, All, codes, Option, Some, None}
 use Rattle.std.specs.List.{flat_map}
 use Rattle.nob_model_types.specs.declared.entry.Entry.{Entry}
 use Rattle.nob_model_invariant.specs.Safe.{IsSafe}
@@ -11,8 +11,10 @@ use Rattle.nob_model_chains.specs.Faults.{IsFault, AreAccepted}
 use Rattle.nob_keeper.specs.declared.keep.Keep.{Keep}
 use Rattle.nob_keeper.specs.declared.keep.Keep.TheVariants as keeps
 use Rattle.nob_keeper.specs.declared.summary.Summary.{Summary}
+use Rattle.nob_keeper.specs.Segments.{spaces_to}
 use Rattle.nob_demo_spaces.specs.Scenes.{Setting}
 use Rattle.nob_demo_spaces.specs.Lines.{lines, unchecked_lines, last_line, stopped}
+use Rattle.nob_demo_spaces.specs.Scores.{score_of}
 use Rattle.nob_demo_spaces.specs.declared.score.Score.{Score}
 use Rattle.nob_demo_spaces.specs.declared.ending.Ending.{Ending}
 use Rattle.nob_demo_spaces.specs.declared.ending.Stop.{Stop}
@@ -23,9 +25,14 @@ pub data Prints (chains : List ChainParts) (text : List ℕ) (ending : Ending) :
   printed : All IsWritable chains → text ≡ flat_map chain_text chains → ending ≡ Printed → Prints chains text ending
   unwritten : (All IsWritable chains → ⊥) → text ≡ codes "R2\n" → ending ≡ Refused → Prints chains text ending
 
--- what is said of chains, with a score: yes where together they are a run of a world, which is safe, and each seal is right; no where something is wrong with them
+-- what is said of accepted chains, of which these are the merged entries, with a score: yes where it is what the entries say that was answered, else no
+pub data Counts (score : Score) (merged : List Entry) (text : List ℕ) (ending : Ending) : Type 0 where
+  right : score ≡ score_of (reverse merged) → text ≡ lines score true → ending ≡ Accepted → Counts score merged text ending
+  wrong : score ≢ score_of (reverse merged) → text ≡ lines score false → ending ≡ Refused → Counts score merged text ending
+
+-- what is said of chains, with a score: yes where together they are a run of a world, which is safe, and each seal is right, and the score is theirs; no where something is wrong with them, or it isn't
 pub data Judges (score : Score) (chains : List ChainParts) (text : List ℕ) (ending : Ending) : Type 0 where
-  accepted : (merged : List Entry) → AreAccepted chains merged → IsSafe (length chains) (reverse merged) → text ≡ lines score true → ending ≡ Accepted → Judges score chains text ending
+  accepted : (merged : List Entry) → AreAccepted chains merged → IsSafe (length chains) (reverse merged) → Counts score merged text ending → Judges score chains text ending
   refused : (fault : SetFault) → IsFault chains fault → text ≡ lines score false → ending ≡ Refused → Judges score chains text ending
 
 -- what is told of chains, with a score: they, where they are wanted, else what is said of them
@@ -56,6 +63,24 @@ abbrev pub Says : Setting → Option Stop → Score → List ChainParts → List
 Says setting (Some stop) score chains summaries text ending = (text ≡ last_line (stopped stop)) × (ending ≡ stopped stop)
 Says setting None score chains summaries text ending = Ends setting score chains summaries text ending
 
--- what is written of a scene, and how it ends, whatever its threads do: what is said of some stop, some score, some chains and some summaries
+-- these are chains of so many spaces, one of each, in order
+abbrev pub AreChainsOf : (spaces : ℕ) → List ChainParts → Type 0
+AreChainsOf spaces chains = map (λ chain. chain.space) chains ≡ spaces_to spaces
+
+-- these are summaries of so many spaces, one of each, in order
+abbrev pub AreSummariesOf : (spaces : ℕ) → List Summary → Type 0
+AreSummariesOf spaces summaries = map (λ summary. summary.space) summaries ≡ spaces_to spaces
+
+-- each of so many spaces left a chain, where all was kept, or else a summary
+abbrev pub AreOfEach : Keep → (spaces : ℕ) → List ChainParts → List Summary → Type 0
+AreOfEach keeps.All spaces chains summaries = AreChainsOf spaces chains
+AreOfEach keeps.Nothing spaces chains summaries = AreSummariesOf spaces summaries
+
+-- where no space stopped, each of so many spaces left a chain or a summary
+abbrev pub HaveLeft : Keep → (spaces : ℕ) → Option Stop → List ChainParts → List Summary → Type 0
+HaveLeft keep spaces (Some stop) chains summaries = Unit {0}
+HaveLeft keep spaces None chains summaries = AreOfEach keep spaces chains summaries
+
+-- what is written of a scene, and how it ends, whatever its threads do: what is said of some stop, some score, some chains and some summaries, of which there is one for each space of the scene where none stopped
 abbrev pub Plays : Setting → (text : List ℕ) → Ending → Type 0
-Plays setting text ending = (stop : Option Stop) × (score : Score) × (chains : List ChainParts) × (summaries : List Summary) × Says setting stop score chains summaries text ending
+Plays setting text ending = (stop : Option Stop) × (score : Score) × (chains : List ChainParts) × (summaries : List Summary) × HaveLeft setting.keep setting.spaces stop chains summaries × Says setting stop score chains summaries text ending

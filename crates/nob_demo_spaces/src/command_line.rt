@@ -28,10 +28,12 @@ line, where S is 1 or 2, the end that is asked:
   S get       the next item is taken            item N HEX, none, or N1
   S tick      a tick of the end's clock         ok, closed 3, or N1
   S close     the end closes                    closed 1, or N1
+  S open      it begins the next session        opened H, or N5
 
 N1: the end is closed. N2: too many items are unacknowledged. N3: the numbers
-are used up. X2: no such frame was transmitted. `memory`: there was none for
-this step, which changed nothing.
+are used up. N5: the end is open. X2: no such frame was transmitted. `memory`:
+there was none for this step, which changed nothing. H is the session's number:
+its frames bring nothing to an end that isn't in that session.
 
 A line that is none of these ends the run: `line N: bad step`. What commonly is
 one: lines that end with CR LF, a byte-order mark, upper-case digits, a number
@@ -65,11 +67,13 @@ is asked, or `deliver K`: the K-th frame that was ever sent arrives.
                          given up
   withdraw X             an object is taken back      withdrawn
   send P  tick P  close P                             frames ..; ok; closed R
+  open P                 a new session with P         opened H, its number
   deliver K              a frame arrives              took N, or closed R
 
 A value is u (unit), i7, b0a (bytes), r1.2 (a reference), or [u,i7] (a list).
-S1 to S13: the space refuses the step. X1: there is no such space. X2: no such
-frame was sent. S14: there was no memory for this step, which changed nothing.
+S1 to S13, S15, S16: the space refuses the step. X1: there is no such space. X2:
+no such frame was sent. S14: there was no memory for this step, which changed
+nothing.
 The last line is the verdict on all that was done: `verdict yes`, or `verdict no`
 and what failed. A line that is no step ends the run: `line N: bad step`.
 
@@ -154,7 +158,8 @@ What is written:
 
   calls K      so many calls were answered
   total T      the greatest total that the counter answered
-  check yes    the chains of all spaces are together a run of a world
+  check yes    the chains of all spaces are together a run of a world, and the
+               numbers above are what they say
 
 or one line: `full`, where a trace was full, or `memory`, where there was none.
 With --traces the chains are written in place of these lines, for nobj check: what

@@ -1,5 +1,7 @@
 //! What each thread of the scene has.
 
+ghost use Rattle.std.specs.Prelude.{◌≡◌, length, IfSome};
+
 use crate::meeting::Meeting;
 use crate::player::{Player, stop_of};
 use crate::scene::Scene;
@@ -187,26 +189,43 @@ fn words_of(alloc: Global, scene: Scene, from: SpaceId, to: SpaceId) -> Option<V
 }
 
 // The places of all spaces, with a link each way between each two of them. Only memory fails it.
-pub(crate) fn places_of(alloc: Global, scene: Scene) -> Option<Vec<Place>> {
+pub(crate) fn places_of(alloc: Global, scene: Scene) -> Option<Vec<Place>>
+    ensures { IfSome result (λ places. length places.items ≡ scene.spaces) }
+{
+    let mut places = apart(alloc, scene)?;
+    join_all(alloc, scene, places.as_mut_slice())?;
+    Some(places)
+}
+
+// The places of all spaces, of which no two are linked yet. Only memory fails it.
+fn apart(alloc: Global, scene: Scene) -> Option<Vec<Place>>
+    ensures { IfSome result (λ places. length places.items ≡ scene.spaces) }
+{
     let owner = SpaceId::new(1)?;
     let mut places = Vec::new(alloc);
-    for number in 1..=scene.spaces() as u16 {
+    while places.len() < usize::from(scene.spaces()) {
+        let number = u16::try_from(places.len() + 1).ok()?;
         let space = SpaceId::new(number)?;
         places.push(Place::new(alloc, scene, space, owner)?).ok()?;
     }
+    Some(places)
+}
+
+// Joins each two of these places. Only memory fails it.
+fn join_all(alloc: Global, scene: Scene, places: &mut [Place]) -> Option<()> {
     for first in 0..places.len() {
         for second in 0..first {
-            join(alloc, scene, &mut places, first, second)?;
+            join(alloc, scene, places, first, second)?;
         }
     }
-    Some(places)
+    Some(())
 }
 
 // Joins two places by a link each way. Only memory fails it.
 fn join(
     alloc: Global,
     scene: Scene,
-    places: &mut Vec<Place>,
+    places: &mut [Place],
     first: usize,
     second: usize,
 ) -> Option<()> {

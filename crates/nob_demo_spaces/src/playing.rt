@@ -1,15 +1,15 @@
 //! The scene.
 
-ghost use Rattle.std.specs.Prelude.{◌≡◌, ◌++◌, []};
+ghost use Rattle.std.specs.Prelude.{◌≡◌, ◌+◌, ◌++◌, ℕ, suc, true, [], length, OnOk};
 ghost use Rattle.nob_demo_spaces.specs.Lines.{last_line};
-ghost use Rattle.nob_demo_spaces.specs.Endings.{Plays};
+ghost use Rattle.nob_demo_spaces.specs.Endings.{Plays, AreOfEach, AreChainsOf, AreSummariesOf, HaveLeft};
 
 use crate::meeting::Meeting;
 use crate::places::{Place, Played, places_of};
 use crate::scene::Scene;
 use crate::{Ending, Score, Stop, graver, say};
 use nob_chain::Chain;
-use nob_node::{Record, Summary};
+use nob_node::{Keep, Record, Summary};
 use std::alloc::Global;
 use std::sync::Wait;
 use std::thread::{self, Threads};
@@ -46,50 +46,111 @@ fn run_all<R: Threads + Wait + Sync>(rt: &R, places: &[Place]) {
     });
 }
 
+/// What spaces left: chains, where all was kept, or else summaries.
+#[derive(Drop)]
+struct Records {
+    chains: Vec<Chain>,
+    summaries: Vec<Summary>,
+}
+
 // Writes what is said of places whose nodes have ended.
 fn say_of(alloc: Global, scene: Scene, places: Vec<Place>, text: &mut Vec<u8>) -> Ending
-    requires { text.old.items ≡ [] }
+    requires places { length places.items ≡ scene.spaces }
+    requires text { text.old.items ≡ [] }
     ensures { Plays scene (text.new.items ++ last_line result) result }
 {
-    let mut chains = Vec::new(alloc);
-    let mut summaries = Vec::new(alloc);
-    let (stop, score) = summed(places, &mut chains, &mut summaries);
+    let mut records = Records {
+        chains: Vec::new(alloc),
+        summaries: Vec::new(alloc),
+    };
+    let (stop, score) = summed(scene.keep(), places, &mut records);
+    let Records { chains, summaries } = records;
     let summaries = summaries.as_slice();
     say(alloc, scene, stop, score, chains, summaries, text)
 }
 
 // Why the scene stops, if a space stopped or there is no memory for what they left, and what callers
-// counted.
-fn summed(
-    places: Vec<Place>,
-    chains: &mut Vec<Chain>,
-    summaries: &mut Vec<Summary>,
-) -> (Option<Stop>, Score) {
-    let mut stop = None;
-    let mut score = Score::new();
-    for place in places {
-        match kept(place.into_left(), chains, summaries) {
-            Ok(counted) => score = score.with_score(counted),
-            Err(reason) => stop = Some(graver(reason, stop)),
-        }
+// counted. Else each of these spaces left its record, which stands behind those of the spaces before.
+fn summed(keep: Keep, mut places: Vec<Place>, records: &mut Records) -> (Option<Stop>, Score)
+    ensures { (before : ℕ)
+        → AreOfEach keep before records.old.chains.items records.old.summaries.items
+        → HaveLeft keep (before + length places.items) result.0 records.new.chains.items
+        records.new.summaries.items }
+{
+    if places.is_empty() {
+        return (None, Score::new());
     }
-    (stop, score)
+    let first = places.remove(0);
+    let counted = kept(keep, first.into_left(), records);
+    let (stop, score) = summed(keep, places, records);
+    match counted {
+        Ok(counted) => (stop, score.with_score(counted)),
+        Err(reason) => (Some(graver(reason, stop)), score),
+    }
 }
 
-// What the callers of a space counted, whose chain or summary is put behind the others.
-fn kept(
-    left: Result<Played, Stop>,
-    chains: &mut Vec<Chain>,
-    summaries: &mut Vec<Summary>,
-) -> Result<Score, Stop> {
+// What the callers of a space counted, whose record is put behind those of the spaces before. It is
+// looked at once more: that it is this space's. It always is, since no other thread left it.
+fn kept(keep: Keep, left: Result<Played, Stop>, records: &mut Records) -> Result<Score, Stop>
+    ensures { (before : ℕ)
+        → AreOfEach keep before records.old.chains.items records.old.summaries.items
+        → OnOk result (AreOfEach keep (suc before) records.new.chains.items
+        records.new.summaries.items) }
+{
     let Played { score, record } = left?;
-    let is_kept = match record {
-        Record::Chain(chain) => chains.push(chain).is_ok(),
-        Record::Summary(summary) => summaries.push(summary).is_ok(),
-    };
-    if is_kept {
-        Ok(score)
-    } else {
-        Err(Stop::OutOfMemory)
+    if keep_record(keep, record, records) {
+        return Ok(score);
+    }
+    Err(Stop::OutOfMemory)
+}
+
+// Whether what a space left is kept: what is wanted of it, of the next space, and there is memory.
+fn keep_record(keep: Keep, record: Record, records: &mut Records) -> bool
+    ensures { (before : ℕ)
+        → AreOfEach keep before records.old.chains.items records.old.summaries.items
+        → result ≡ true
+        → AreOfEach keep (suc before) records.new.chains.items records.new.summaries.items }
+{
+    match record {
+        Record::Chain(chain) => match keep {
+            Keep::All => keep_chain(chain, &mut records.chains),
+            Keep::Nothing => false,
+        },
+        Record::Summary(summary) => match keep {
+            Keep::All => false,
+            Keep::Nothing => keep_summary(summary, &mut records.summaries),
+        },
+    }
+}
+
+// Whether a chain is kept: it is the next space's, and there is memory.
+#[tactic(auto, using(crate::proofs::Each::chain_more))]
+fn keep_chain(chain: Chain, chains: &mut Vec<Chain>) -> bool
+    ensures { (before : ℕ) → AreChainsOf before chains.old.items
+        → result ≡ true → AreChainsOf (suc before) chains.new.items }
+{
+    let space = usize::from(chain.parts().space.get());
+    if space != chains.len() + 1 {
+        return false;
+    }
+    match chains.push(chain) {
+        Ok(()) => true,
+        Err(_) => false,
+    }
+}
+
+// Whether a summary is kept: it is the next space's, and there is memory.
+#[tactic(auto, using(crate::proofs::Each::summary_more))]
+fn keep_summary(summary: Summary, summaries: &mut Vec<Summary>) -> bool
+    ensures { (before : ℕ) → AreSummariesOf before summaries.old.items
+        → result ≡ true → AreSummariesOf (suc before) summaries.new.items }
+{
+    let space = usize::from(summary.space.get());
+    if space != summaries.len() + 1 {
+        return false;
+    }
+    match summaries.push(summary) {
+        Ok(()) => true,
+        Err(_) => false,
     }
 }

@@ -1,8 +1,9 @@
 //! What callers count.
 
-ghost use Rattle.std.specs.Prelude.{◌≡◌};
+ghost use Rattle.std.specs.Prelude.{◌≡◌, reverse};
 ghost use Rattle.nob_demo_spaces.specs.Scores as spec;
 
+use nob_model_types::{Answer, Entry, Refusal};
 use nob_pickle::Value;
 
 /// What callers count: how many calls were answered, and the greatest total that was answered.
@@ -69,5 +70,29 @@ fn greater(total: i64, value: &Value) -> i64
     match value {
         Value::Int(number) => total.max(*number),
         _ => total,
+    }
+}
+
+// What entries say that was answered with totals.
+pub(crate) fn score_in(entries: &[Entry]) -> Score
+    ensures { result ≡ spec.score_of (reverse entries.now) }
+{
+    let mut score = Score::new();
+    for entry in entries {
+        score = after(score, &entry.result);
+    }
+    score
+}
+
+// A score after a result of a space: a reply that was taken may be a total.
+fn after(score: Score, said: &Result<Answer, Refusal>) -> Score
+    ensures { result ≡ spec.with_result said.now score }
+{
+    match said {
+        Ok(Answer::Replied(status, value)) => match value {
+            Value::Int(_) => score.with_reply(*status, value),
+            _ => score,
+        },
+        _ => score,
     }
 }

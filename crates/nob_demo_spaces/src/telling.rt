@@ -6,11 +6,11 @@ ghost use Rattle.nob_demo_spaces.specs.Lines.{last_line};
 
 use crate::ending::{Ending, Stop};
 use crate::scene::Scene;
-use crate::score::Score;
+use crate::score::{Score, score_in};
 use crate::summaries::unchecked_lines;
 use crate::texts::lines;
 use nob_chain::{Chain, ChainError, encode, refusal_line};
-use nob_chain_check::{SetError, check};
+use nob_chain_check::{Merged, SetError, check};
 use nob_node::{Keep, Summary};
 use std::alloc::{AllocError, Global};
 
@@ -18,7 +18,7 @@ use std::alloc::{AllocError, Global};
 /// to follow. Where a space stopped nothing is written. Else it is, of what the callers counted and
 /// the chains that the spaces left: the chains one after the other, where the scene wants them, or
 /// how many calls were answered, the greatest total, and whether the chains are together a run of a
-/// world and their seals right. Where the spaces kept nothing the third line says that nothing was
+/// world, their seals right, and those numbers what the chains say. Where the spaces kept nothing the third line says that nothing was
 /// checked, and the summaries that they left stand behind it. It costs what the check of the chains
 /// costs, or their text.
 pub fn say(
@@ -94,10 +94,24 @@ fn tell_chains(
         return print(alloc, chains.as_slice());
     }
     match check(alloc, chains) {
-        Ok(_merged) => Ok((lines(alloc, score, true)?, Ending::Accepted)),
+        Ok(merged) => tell_accepted(alloc, score, &merged),
         Err(SetError::Fault(_)) => Ok((lines(alloc, score, false)?, Ending::Refused)),
         Err(SetError::OutOfMemory) => Err(AllocError),
     }
+}
+
+// What is told of accepted chains, by what their entries say that was answered. Only memory fails it.
+fn tell_accepted(
+    alloc: Global,
+    score: Score,
+    merged: &Merged,
+) -> Result<(Vec<u8>, Ending), AllocError>
+    ensures { IfOk result (λ told. spec.Counts score merged.now told.0.items told.1) }
+{
+    if score == score_in(merged.entries()) {
+        return Ok((lines(alloc, score, true)?, Ending::Accepted));
+    }
+    Ok((lines(alloc, score, false)?, Ending::Refused))
 }
 
 // Chains, one after the other, or the line of one that has no text.

@@ -9,6 +9,7 @@ use Rattle.nob_dispatch_jobs.specs.declared.errand.Errand.{Errand}
 use Rattle.nob_dispatch_jobs.specs.declared.errand.Return.{Return}
 use Rattle.nob_dispatch_jobs.specs.declared.shelf.Place.{Place}
 use Rattle.nob_dispatch_jobs.specs.declared.shelf.Place.TheVariants.{Here, Away}
+use Rattle.nob_dispatch.specs.Stakes.{Stakes}
 use Rattle.nob_dispatch.specs.Assigning.{with_back}
 
 -- an object was put down where its place is away, or else let go
@@ -18,9 +19,9 @@ placed (Some (Here object)) old new shelf away out = out (λ same. absurd cc)
 placed None old new shelf away out = out (λ same. absurd cc)
 
 -- so it came back, and all else is as it was
-pub comes_back : {O : Type 0} (back : Return O) (given : List (Errand O)) (old new : List (Return O)) (unsent : Option Job) (is_alone : Bool) (away less : ℕ) (has_stopped : Bool) (before after : Dispatching O)
-    → new ≡ old ++ back ∷ [] → less ≡ away - 1 → (place_of back.index before.shelf ≡ Some Away → after ≡ dispatching.with_shelf (with_place back.index (Here back.object) before.shelf) before) → (place_of back.index before.shelf ≢ Some Away → after ≡ before)
-    → record { given = given; back = new; unsent = unsent; is_alone = is_alone; away = less; has_stopped = has_stopped; dispatcher = after } ≡ with_back back (record { given = given; back = old; unsent = unsent; is_alone = is_alone; away = away; has_stopped = has_stopped; dispatcher = before })
-comes_back back given old new unsent is_alone away less has_stopped before after got fewer put out =
+pub comes_back : {O : Type 0} (back : Return O) (given : List (Errand O)) (old new : List (Return O)) (unsent : Option Job) (is_alone : Bool) (away less : ℕ) (has_stopped : Bool) (before after : Dispatching O) (stakes stakes' : Stakes O)
+    → new ≡ old ++ back ∷ [] → less ≡ away - 1 → (place_of back.index before.shelf ≡ Some Away → after ≡ dispatching.with_shelf (with_place back.index (Here back.object) before.shelf) before) → (place_of back.index before.shelf ≢ Some Away → after ≡ before) → stakes' ≡ stakes
+    → record { given = given; back = new; unsent = unsent; is_alone = is_alone; away = less; has_stopped = has_stopped; dispatcher = after; stakes = stakes' } ≡ with_back back (record { given = given; back = old; unsent = unsent; is_alone = is_alone; away = away; has_stopped = has_stopped; dispatcher = before; stakes = stakes })
+comes_back back given old new unsent is_alone away less has_stopped before after stakes stakes' got fewer put out same =
     let down = placed (place_of back.index before.shelf) before after (with_place back.index (Here back.object) before.shelf) put out in
-    rw (got, fewer, down) refl
+    rw (got, fewer, down, same) refl

@@ -2,6 +2,7 @@
 use Rattle.std.specs.Prelude.{◌≡◌, ◌⊎◌, ◌≤◌, ◌+◌, ◌-◌, ℕ, Bool, true, List, [], ◌∷◌, ◌++◌, length, map, reverse, Option, Some, None, Result, Ok, if◌then◌else◌}
 use Rattle.nob_model_types.specs.declared.answer.Job.{Job}
 use Rattle.nob_dispatch_jobs.specs.KeeperError.{KeeperError}
+use Rattle.nob_dispatch.specs.Stakes.{Stakes}
 use Rattle.nob_dispatch.specs.declared.desk.Assigned.{Assigned}
 use Rattle.nob_dispatch.specs.declared.desk.Assigned.TheVariants as answers
 use Rattle.nob_dispatch_jobs.specs.declared.errand.Errand.{Errand}
@@ -29,6 +30,8 @@ pub record Assigning (O : Type 0) : Type 0 where
   pub has_stopped : Bool
   -- its dispatcher
   pub dispatcher : Dispatching O
+  -- the stakes of its ends
+  pub stakes : Stakes O
 
 module _ {O : Type 0} where
   -- the jobs of errands
@@ -50,7 +53,7 @@ module _ {O : Type 0} where
 
   -- a desk to which an object came back
   abbrev pub with_back : Return O → Assigning O → Assigning O
-  with_back back a = record { given = a.given; back = a.back ++ back ∷ []; unsent = a.unsent; is_alone = a.is_alone; away = a.away - 1; has_stopped = a.has_stopped; dispatcher = dispatching.with_shelf (with_return back a.dispatcher.shelf) a.dispatcher }
+  with_back back a = record { given = a.given; back = a.back ++ back ∷ []; unsent = a.unsent; is_alone = a.is_alone; away = a.away - 1; has_stopped = a.has_stopped; dispatcher = dispatching.with_shelf (with_return back a.dispatcher.shelf) a.dispatcher; stakes = a.stakes }
 
   -- a desk to which these came back, the newest of which stands FIRST
   abbrev pub with_all_back : List (Return O) → Assigning O → Assigning O
@@ -67,7 +70,7 @@ module _ {O : Type 0} where
 
   -- all but the objects, and what came back, is as it was
   abbrev pub IsSameBesideBack : (old new : Assigning O) → Type 0
-  IsSameBesideBack old new = (new.given ≡ old.given) × (new.unsent ≡ old.unsent) × (new.is_alone ≡ old.is_alone) × (new.has_stopped ≡ old.has_stopped) × dispatching.IsSameBesideShelf old.dispatcher new.dispatcher
+  IsSameBesideBack old new = (new.given ≡ old.given) × (new.unsent ≡ old.unsent) × (new.is_alone ≡ old.is_alone) × (new.has_stopped ≡ old.has_stopped) × (new.stakes ≡ old.stakes) × dispatching.IsSameBesideShelf old.dispatcher new.dispatcher
 
   -- one errand is given, with the object of its job's index, which was here and is away from then on; or none is
   abbrev pub GivesOne : Result Assigned KeeperError → (old new : Assigning O) → Type 0
@@ -80,8 +83,8 @@ module _ {O : Type 0} where
 
   -- a desk with other objects
   abbrev pub with_shelf : List (ℕ × Place O) → Assigning O → Assigning O
-  with_shelf shelf a = record { given = a.given; back = a.back; unsent = a.unsent; is_alone = a.is_alone; away = a.away; has_stopped = a.has_stopped; dispatcher = dispatching.with_shelf shelf a.dispatcher }
+  with_shelf shelf a = record { given = a.given; back = a.back; unsent = a.unsent; is_alone = a.is_alone; away = a.away; has_stopped = a.has_stopped; dispatcher = dispatching.with_shelf shelf a.dispatcher; stakes = a.stakes }
 
   -- a desk that claims no more
   abbrev pub stopped : Assigning O → Assigning O
-  stopped a = record { given = a.given; back = a.back; unsent = a.unsent; is_alone = a.is_alone; away = a.away; has_stopped = true; dispatcher = a.dispatcher }
+  stopped a = record { given = a.given; back = a.back; unsent = a.unsent; is_alone = a.is_alone; away = a.away; has_stopped = true; dispatcher = a.dispatcher; stakes = a.stakes }

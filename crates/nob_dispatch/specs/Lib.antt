@@ -4,6 +4,7 @@ pub use Rattle.nob_dispatch_jobs.specs.Working
 pub use Rattle.nob_dispatch_jobs.specs.Dispatching
 pub use Rattle.nob_dispatch_jobs.specs.declared.shelf.Place
 pub use Rattle.nob_dispatch_jobs.specs.declared.errand.Return
+pub mod Stakes
 pub mod Serving
 pub mod Assigning
 pub mod Sides

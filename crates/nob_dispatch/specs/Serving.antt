@@ -10,6 +10,7 @@ use Rattle.nob_dispatch_jobs.specs.declared.errand.Errand.{Errand}
 use Rattle.nob_dispatch_jobs.specs.declared.errand.Return.{Return}
 use Rattle.nob_dispatch_jobs.specs.Ends.{ended, with_job}
 use Rattle.nob_dispatch_jobs.specs.Working.{Working, with_errand}
+use Rattle.nob_dispatch.specs.Stakes.{Stakes}
 use Rattle.nob_dispatch.specs.declared.hand.Deed.{Deed}
 use Rattle.nob_dispatch.specs.declared.hand.Deed.TheVariants as deeds
 
@@ -65,6 +66,8 @@ pub record Serving (O : Type 0) : Type 0 where
   pub fault : Option KeeperError
   -- whether it heard that nobody gets what it gives back
   pub is_alone : Bool
+  -- the stakes of its ends
+  pub stakes : Stakes O
 
 module _ {O : Type 0} where
   -- the numbers of the jobs of errands
@@ -97,7 +100,7 @@ module _ {O : Type 0} where
 
   -- an errand was got: its job is the next, and the worker keeps it with its object
   abbrev pub Gets : (old new : Serving O) → Type 0
-  Gets old new = (errand : Errand O) × (new ≡ record { taken = old.taken ++ errand ∷ []; given = old.given; worker = with_errand errand old.worker; fault = old.fault; is_alone = old.is_alone })
+  Gets old new = (errand : Errand O) × (new ≡ record { taken = old.taken ++ errand ∷ []; given = old.given; worker = with_errand errand old.worker; fault = old.fault; is_alone = old.is_alone; stakes = old.stakes })
 
   -- a hand whose job has ended keeps none, and so does one that has nothing to do, or has just begun to give up
   abbrev pub IsFreeAfter : Result Deed KeeperError → Serving O → Type 0

@@ -2,6 +2,7 @@
 
 ghost use Rattle.std.specs.Prelude.{◌≡◌, ◌≢◌, ◌<◌, [], List, Some, None, true, false, OnOk, OnErr, MatchOption, MatchResult};
 ghost use Rattle.nob_dispatch.specs.Assigning as assigning;
+ghost use Rattle.nob_dispatch.specs.Stakes as ends;
 ghost use Rattle.nob_model_types.specs.declared.answer.Job.{Job as JobOf};
 ghost use Rattle.nob_dispatch_jobs.specs.Dispatching as dispatching;
 ghost use Rattle.nob_dispatch_jobs.specs.Ends.{claimed};
@@ -96,6 +97,7 @@ impl<O: Object> Desk<O> {
             waiting = [];
             ending = None;
           };
+          stakes = ends.of_desk errands returns;
         } }
     {
         Desk {
@@ -188,6 +190,7 @@ impl<O: Object> Desk<O> {
         ensures claims { self.old.has_stopped ≡ true
             → claimed self.new.dispatcher.receipts ≡ claimed self.old.dispatcher.receipts }
         ensures stopped { self.new.has_stopped ≡ self.old.has_stopped }
+        ensures stakes { self.new.stakes ≡ self.old.stakes }
     {
         self.take_back(rt);
         if self.unsent.is_some() {
@@ -235,6 +238,7 @@ impl<O: Object> Desk<O> {
         ensures claims { self.old.has_stopped ≡ true
             → claimed self.new.dispatcher.receipts ≡ claimed self.old.dispatcher.receipts }
         ensures stopped { self.new.has_stopped ≡ self.old.has_stopped }
+        ensures stakes { self.new.stakes ≡ self.old.stakes }
     {
         let claims = !self.has_stopped;
         match step(rt, keeper, &mut self.dispatcher, claims)? {
@@ -287,6 +291,7 @@ impl<O: Object> Desk<O> {
         ensures unsent { result.1 ≡ self.unsent }
         ensures errands { serving.given result.2 ≡ self.given }
         ensures returns { serving.taken result.3 ≡ self.back }
+        ensures stakes { ends.of_desk result.2 result.3 ≡ self.stakes }
         ensures tied { assigning.IsTied self }
     {
         let Desk {

@@ -2,6 +2,8 @@
 
 ghost use Rattle.std.specs.Prelude.{◌≡◌, ◌≢◌, [], ℕ, List, Some, None, true, false, reverse, MatchOption};
 ghost use Rattle.nob_dispatch.specs.Serving as serving;
+ghost use Rattle.nob_dispatch.specs.Stakes as ends;
+ghost use Rattle.nob_dispatch_lanes.specs.Ends.{stake_of};
 ghost use Rattle.nob_dispatch_jobs.specs.Working as working;
 
 use nob_dispatch_jobs::{Errand, Gate, JobCalls, KeeperError, Progress, Return, Seat, Worker};
@@ -64,6 +66,7 @@ impl<O: Object> Hand<O> {
           worker = record { receipts = []; job = None; running = None };
           fault = None;
           is_alone = returns.has_heard_gone;
+          stakes = ends.of_hand errands returns;
         } }
     {
         Hand {
@@ -81,6 +84,7 @@ impl<O: Object> Hand<O> {
         ensures got { self.old.worker.job ≡ None → result ≡ true
             → serving.Gets self.old self.new }
         ensures none { result ≡ false → (self.old.worker.job ≡ None) × (self.new ≡ self.old) }
+        ensures stakes { self.new.stakes ≡ self.old.stakes }
     {
         if !self.worker.is_free() {
             return true;
@@ -101,6 +105,7 @@ impl<O: Object> Hand<O> {
         ensures got { self.old.worker.job ≡ None → result ≡ true
             → serving.Gets self.old self.new }
         ensures none { result ≡ false → (self.old.worker.job ≡ None) × (self.new ≡ self.old) }
+        ensures stakes { self.new.stakes ≡ self.old.stakes }
     {
         if !self.worker.is_free() {
             return true;
@@ -128,6 +133,7 @@ impl<O: Object> Hand<O> {
         ensures taken { self.new.taken ≡ self.old.taken }
         ensures fault { self.new.fault ≡ serving.fault_after result self.old.fault }
         ensures free { serving.IsFreeAfter result self.new }
+        ensures stakes { self.new.stakes ≡ self.old.stakes }
     {
         if let Some(error) = self.fault {
             self.give_up(rt, error);
@@ -158,6 +164,7 @@ impl<O: Object> Hand<O> {
         ensures fault { self.new.fault ≡ Some error }
         ensures taken { self.new.taken ≡ self.old.taken }
         ensures worker { self.new.worker ≡ working.freed self.old.worker }
+        ensures stakes { self.new.stakes ≡ self.old.stakes }
     {
         self.fault = Some(error);
         if let Some(back) = self.worker.give_up() {
@@ -180,6 +187,7 @@ impl<O: Object> Hand<O> {
             (λ errand. self.worker.running ≡ Some errand.job) }
         ensures errands { serving.taken result.2 ≡ self.taken }
         ensures returns { serving.given result.3 ≡ self.given }
+        ensures stakes { ends.of_hand result.2 result.3 ≡ self.stakes }
         ensures tied { serving.IsTied self }
     {
         let Hand {
@@ -209,11 +217,12 @@ pub(crate) fn is_memory(error: KeeperError) -> bool
 // Gives an object back over a lane, unless it was heard that nobody gets it any more.
 #[tactic(auto, using(crate::proofs::Follows::missed))]
 fn send_back<O: Object, R: Wait>(rt: &R, returns: &mut LanePut<Return<O>>, back: Return<O>)
-    ensures { (all : List (ℕ × ℕ))
+    ensures follows { (all : List (ℕ × ℕ))
         → serving.Follows returns.old.has_heard_gone (Some (back.job, back.index)) all
         (serving.returned (reverse (serving.given returns.old)))
         → serving.Follows returns.new.has_heard_gone None all
         (serving.returned (reverse (serving.given returns.new))) }
+    ensures stake { stake_of returns.new.pass ≡ stake_of returns.old.pass }
 {
     if returns.has_heard_gone() {
         return;

@@ -26,6 +26,7 @@ pub fn serve<O: Object, R: Wait, C: JobCalls, G: Gate>(
     hand: &mut Hand<O>,
 )
     ensures free { hand.new.worker.job ≡ None }
+    ensures stakes { hand.new.stakes ≡ hand.old.stakes }
 {
     for _ in rt.forever() {
         if !hand.get(rt) {
@@ -45,6 +46,7 @@ pub fn carry_out<O: Object, R: Wait, C: JobCalls, G: Gate>(
 )
     ensures taken { hand.new.taken ≡ hand.old.taken }
     ensures free { hand.new.worker.job ≡ None }
+    ensures stakes { hand.new.stakes ≡ hand.old.stakes }
 {
     let mut rest = FIRST_REST;
     for _ in rt.forever() {

@@ -6,7 +6,7 @@ use Rattle.nob_dispatch_lanes.specs.declared.rule.Knowledge.{Knowledge}
 
 -- so many parts there are of the right to know the whole
 abbrev pub all_parts : ℕ
-all_parts = 2 ^ 128
+all_parts = 2 ^ 127
 
 module _ {X : Type 0} where
   -- what an end knows: how many parts it has of the right to know the whole, the errands that it gave, and those that it got

@@ -1,11 +1,10 @@
 -- All ends of a lane.
 use Rattle.std.specs.Prelude.{◌≡◌, ℕ, ◌+◌, ◌≤◌, false, List, [], ◌∷◌, ◌++◌}
 use Rattle.std.specs.List.{AllByRecursion}
-use Rattle.crossbeam_channel.specs.Ends.{sends_on, receives_on}
 use Rattle.nob_dispatch_lanes.specs.declared.ends.LanePut.{LanePut}
 use Rattle.nob_dispatch_lanes.specs.declared.ends.LaneTake.{LaneTake}
 use Rattle.nob_dispatch_lanes.specs.Balance.{all_parts}
-use Rattle.nob_dispatch_lanes.specs.Ends.{parts_of, given_by, got_by}
+use Rattle.nob_dispatch_lanes.specs.Ends.{lane_of, parts_of, given_by, got_by}
 
 -- the errands that these ends gave
 abbrev pub all_given : {X : Type 0} → List (LanePut X) → List X
@@ -33,7 +32,7 @@ HaveNotHeard ends = AllByRecursion (λ end. end.has_heard_gone ≡ false) ends
 
 -- two ends are of one lane
 abbrev pub IsOneLane : {X : Type 0} → LanePut X → LaneTake X → Type 0
-IsOneLane giving getting = sends_on giving.sender ≡ receives_on getting.receiver
+IsOneLane giving getting = lane_of giving.pass ≡ lane_of getting.pass
 
 -- these are all ends of one lane
 pub record AreAllEnds {X : Type 0} (giving : List (LanePut X)) (getting : List (LaneTake X)) : Type 0 where

@@ -3,7 +3,7 @@
 ghost use Rattle.std.specs.Prelude.{◌≡◌, ◌≤◌, ◌++◌, ◌∷◌, [], true, OnErr, MatchResult, MatchOption};
 ghost use Rattle.crossbeam_channel.specs.Claims.{IsSeatAt};
 ghost use Rattle.crossbeam_channel.specs.Ends.{sends_on, receives_on, ruled_capacity};
-ghost use Rattle.nob_dispatch_lanes.specs.Ends.{parts_of, given_by, got_by, IsGiver, IsGetter};
+ghost use Rattle.nob_dispatch_lanes.specs.Ends.{stake_of, given_by, got_by, IsGiver, IsGetter};
 
 use crate::fault::Gone;
 use crate::rule::{Fair, Get, Give, Knowledge};
@@ -47,8 +47,7 @@ impl<T: Drop> LanePut<T> {
         ensures err { OnErr result (given_by self.new.pass ≡ given_by self.old.pass) }
         ensures gone { MatchResult result (λ _. self.new.has_heard_gone ≡ self.old.has_heard_gone)
             (λ _. self.new.has_heard_gone ≡ true) }
-        ensures lane { sends_on self.new.sender ≡ sends_on self.old.sender }
-        ensures parts { parts_of self.new.pass ≡ parts_of self.old.pass }
+        ensures stake { stake_of self.new.pass ≡ stake_of self.old.pass }
     {
         match self.sender.send_as::<Give, R>(rt, &mut self.pass, errand) {
             Ok(()) => Ok(()),
@@ -68,8 +67,7 @@ impl<T: Drop> LaneTake<T> {
     pub fn get_as<R: Wait>(&mut self, rt: &R) -> Option<T>
         ensures answer { MatchOption result (got_by self.new.pass ≡ got_by self.old.pass)
             (λ errand. got_by self.new.pass ≡ got_by self.old.pass ++ errand ∷ []) }
-        ensures lane { receives_on self.new.receiver ≡ receives_on self.old.receiver }
-        ensures parts { parts_of self.new.pass ≡ parts_of self.old.pass }
+        ensures stake { stake_of self.new.pass ≡ stake_of self.old.pass }
     {
         self.receiver.recv_as::<Get, R>(rt, &mut self.pass).ok()
     }
@@ -79,8 +77,7 @@ impl<T: Drop> LaneTake<T> {
     pub fn try_get_as<R: Wait>(&mut self, rt: &R) -> Option<T>
         ensures answer { MatchOption result (got_by self.new.pass ≡ got_by self.old.pass)
             (λ errand. got_by self.new.pass ≡ got_by self.old.pass ++ errand ∷ []) }
-        ensures lane { receives_on self.new.receiver ≡ receives_on self.old.receiver }
-        ensures parts { parts_of self.new.pass ≡ parts_of self.old.pass }
+        ensures stake { stake_of self.new.pass ≡ stake_of self.old.pass }
     {
         self.receiver.try_recv_as::<Get, R>(rt, &mut self.pass).ok()
     }

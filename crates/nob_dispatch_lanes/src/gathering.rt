@@ -72,7 +72,7 @@ fn join_givers<T: Drop>(
     mut ends: Vec<LanePut<T>>,
 ) -> Pass<T, Knowledge<T>>
     requires lane { IsSeatAt (sends_on sender.now) pass }
-    requires lanes { AllByRecursion (λ end. sends_on end.sender ≡ sends_on sender.now) ends.items }
+    requires lanes { AllByRecursion (λ end. IsSeatAt (sends_on sender.now) end.pass) ends.items }
     requires some { 0 < parts_of pass }
     ensures lane { IsSeatAt (sends_on sender.now) result }
     ensures parts { parts_of result ≡ parts_of pass + giving_parts ends.items }
@@ -98,8 +98,7 @@ fn join_getters<T: Drop>(
     mut ends: Vec<LaneTake<T>>,
 ) -> Pass<T, Knowledge<T>>
     requires lane { IsSeatAt (sends_on sender.now) pass }
-    requires lanes { AllByRecursion (λ end. sends_on sender.now ≡ receives_on end.receiver)
-        ends.items }
+    requires lanes { AllByRecursion (λ end. IsSeatAt (sends_on sender.now) end.pass) ends.items }
     requires some { 0 < parts_of pass }
     ensures lane { IsSeatAt (sends_on sender.now) result }
     ensures parts { parts_of result ≡ parts_of pass + getting_parts ends.items }

@@ -6,7 +6,7 @@ use std::collections::LinkedList;
 /// What an end knows. No value of it is made.
 pub struct Knowledge<T> {
     /// How many parts it has of the right to know the whole.
-    pub parts: u64,
+    pub parts: u128,
     /// The errands that it gave.
     pub given: LinkedList<T>,
     /// The errands that it got.

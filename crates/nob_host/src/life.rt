@@ -1,10 +1,11 @@
 //! The beginning and the end of a space.
 
-ghost use Rattle.std.specs.Prelude.{◌≡◌, ◌≢◌, IsSome, None};
+ghost use Rattle.std.specs.Prelude.{◌≡◌, ◌≢◌, IsSome, None, length};
 ghost use Rattle.nob_host_space.specs.Kept.{HasSome};
 ghost use Rattle.nob_host_space.specs.Asked.{AreNumbers, IsNew};
+ghost use Rattle.nob_host_space.specs.Births.{AreBirthNumbers, IsBegun, RefusesBirth, birth_with};
 
-use nob_host_space::{Handle, Host};
+use nob_host_space::{Handle, Host, birth_of};
 use std::alloc::Global;
 
 /// Makes a space, which the handle keeps: the status. 60 where a number is outside its range, 14
@@ -29,6 +30,50 @@ pub extern "C" fn nob_new(
         Ok(host) => match Box::new(alloc, host) {
             Ok(host) => {
                 handle.put(host);
+                0
+            }
+            Err(_) => 14,
+        },
+        Err(status) => status,
+    }
+}
+
+/// Makes a space whose life begins behind so many indexes, calls and jobs, with these numbers of its
+/// sessions, that with space p at place p - 1; the handle keeps it: the status. The own place isn't
+/// read. Else the first of these, and the handle keeps nothing: 60 where a number is outside its
+/// range, or the session numbers aren't as many as the spaces; 71, 72 or 73 where the indexes, the
+/// calls or the jobs are above 2^48; 74 where the session with a peer has a number below 2; 75 where
+/// calls and jobs together are above 2^40 for each earlier session, whichever the peer; 14 for want
+/// of memory. What a new space begins with (nothing before, each session in number 1) is right, too.
+#[unsafe(no_mangle)]
+pub extern "C" fn nob_begin_at(
+    handle: &mut Handle,
+    alloc: Global,
+    id: u16,
+    n: u16,
+    window: u64,
+    retry: u64,
+    indexes: u64,
+    calls: u64,
+    jobs: u64,
+    sessions: &[u32],
+) -> u32
+    requires { handle.old.held ≡ None }
+    ensures made { result ≡ 0 → HasSome handle.new.held (λ host. IsBegun host id n window retry
+        (birth_with indexes calls jobs sessions.now)) }
+    ensures not_made { result ≢ 0 → handle.new.held ≡ None }
+    ensures refused { AreBirthNumbers id n window retry (length sessions.now) → result ≢ 0
+        → RefusesBirth id n (birth_with indexes calls jobs sessions.now) result }
+    ensures range { (AreBirthNumbers id n window retry (length sessions.now) → ⊥) → result ≡ 60 }
+{
+    if n > 32 || sessions.len() != n as usize {
+        return 60;
+    }
+    let birth = birth_of(indexes, calls, jobs, sessions);
+    match Host::begin_at(alloc, id, n, window, retry, &birth) {
+        Ok(host) => match Box::new(alloc, host) {
+            Ok(begun) => {
+                handle.put(begun);
                 0
             }
             Err(_) => 14,

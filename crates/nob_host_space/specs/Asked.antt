@@ -18,7 +18,7 @@ use Rattle.nob_model_types.specs.declared.event.Event.TheVariants as events
 use Rattle.nob_model_types.specs.declared.refusal.Refusal.{Refusal}
 use Rattle.nob_model_history.specs.Histories.{history}
 use Rattle.nob_model.specs.Right.{right}
-use Rattle.nob_space.specs.Spaces.{Owner, StandsFor, SameSpace, entry_of}
+use Rattle.nob_space.specs.Spaces.{Owner, StandsFor, SameSpace, entry_of, wants_memory}
 use Rattle.nob_space.specs.Steps.{front_for}
 use Rattle.nob_space_items.specs.Acts.{FrontWants}
 use Rattle.nob_host_space.specs.declared.host.Host.{Host}
@@ -43,6 +43,8 @@ entries_after true space event L = L
 pub record Asked (old : Owner) (event : Event) (new : Owner) (told : Told) (status : ℕ) : Type 0 where
   pub answer : (L : List Entry) → StandsFor old L → Tells (is_wanted status) (front_for event (history old.id old.n L)) told status (right_of old L event)
   pub stands : (L : List Entry) → StandsFor old L → StandsFor new (entries_after (is_wanted status) old event L)
+  -- the status says that memory was wanted only of an event that may want it
+  pub memory : wants_memory event ≡ false → is_wanted status ≡ false
   pub same : SameSpace old new
 
 -- the value of a reply or a job is kept in place of the one before
@@ -120,17 +122,21 @@ pub record AreNumbers (id n window retry : ℕ) : Type 0 where
   pub low_retry : 1 ≤ retry
   pub high_retry : retry ≤ 255
 
--- a host of a space with these numbers, which has done nothing, and nothing is kept beside it
-pub record IsNew (host : Host) (number spaces most_given most_ticks : ℕ) : Type 0 where
+-- a host of a space with these numbers, and nothing is kept beside it
+pub record IsFresh (host : Host) (number spaces most_given most_ticks : ℕ) : Type 0 where
   pub id : host.space.id ≡ number
   pub n : host.space.n ≡ spaces
   pub window : host.space.limits.window ≡ most_given
   pub retry : host.space.limits.retry ≡ most_ticks
-  pub stands : StandsFor host.space []
   pub value : host.value ≡ None
   pub answer : host.answer ≡ []
   pub waiting : host.waiting ≡ []
   pub feeds : host.feeds ≡ fresh_feeds
+
+-- such a host of a space that has done nothing
+pub record IsNew (host : Host) (number spaces most_given most_ticks : ℕ) : Type 0 where
+  pub fresh : IsFresh host number spaces most_given most_ticks
+  pub stands : StandsFor host.space []
 
 -- the status of a pickle that was asked for: 0, or the number of its fault
 abbrev pub pickle_status : Result (List ℕ) PickleFault → ℕ

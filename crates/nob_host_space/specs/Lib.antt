@@ -1,5 +1,6 @@
 pub mod Numbers
 pub mod Asked
+pub mod Births
 pub mod Streams
 pub mod Looks
 pub mod Bits

@@ -17,6 +17,10 @@ use Rattle.nob_model_types.specs.declared.refusal.Refusal.{Refusal}
 use Rattle.nob_model_types.specs.declared.refusal.Refusal.TheVariants as refusals
 use Rattle.nob_model_types.specs.declared.refusal.Use.{Use}
 use Rattle.nob_model_types.specs.declared.refusal.Use.TheVariants as uses
+use Rattle.nob_space_state.specs.declared.birth.BirthFault.{BirthFault}
+use Rattle.nob_space_state.specs.declared.birth.BirthFault.TheVariants as births
+use Rattle.nob_space_state.specs.declared.birth.BirthError.{BirthError}
+use Rattle.nob_space_state.specs.declared.birth.BirthError.TheVariants as birth_errors
 use Rattle.nob_space_state.specs.declared.error.SpaceError.{SpaceError}
 use Rattle.nob_space_state.specs.declared.error.SpaceError.TheVariants as errors
 use Rattle.nob_host_space.specs.declared.told.Told.{Told}
@@ -50,6 +54,19 @@ refusal_number refusals.StillHeld = 16
 abbrev pub error_number : SpaceError → ℕ
 error_number (errors.Refused refusal) = refusal_number refusal
 error_number errors.OutOfMemory = 14
+
+-- the number of a fault of a birth
+abbrev pub birth_fault_number : BirthFault → ℕ
+birth_fault_number births.Indexes = 71
+birth_fault_number births.Calls = 72
+birth_fault_number births.Jobs = 73
+birth_fault_number (births.Session peer) = 74
+birth_fault_number births.Earlier = 75
+
+-- the number of why a space doesn't begin
+abbrev pub birth_error_number : BirthError → ℕ
+birth_error_number (birth_errors.Fault fault) = birth_fault_number fault
+birth_error_number birth_errors.OutOfMemory = 14
 
 -- whether a status says that memory was wanted
 abbrev pub is_wanted : ℕ → Bool

@@ -3,6 +3,7 @@
 #![tactic(auto)]
 
 mod asking;
+mod births;
 mod bits;
 mod bringing;
 mod bytes;
@@ -16,6 +17,7 @@ mod streams;
 mod told;
 mod waiting;
 
+pub use births::birth_of;
 pub use handle::Handle;
 pub use host::Host;
 pub use looks::{Tally, Work};

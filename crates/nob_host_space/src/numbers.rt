@@ -6,7 +6,7 @@ ghost use Rattle.nob_host_space.specs.Numbers as spec;
 use nob_frame::{FrameError, FrameFault};
 use nob_model::{Refusal, Use};
 use nob_pickle::{PickleError, PickleFault};
-use nob_space::SpaceError;
+use nob_space::{BirthError, BirthFault, SpaceError};
 
 /// The status of what was done.
 pub const DONE: u32 = 0;
@@ -68,6 +68,29 @@ pub fn error_number(error: SpaceError) -> u32
     match error {
         SpaceError::Refused(refusal) => refusal_number(refusal),
         SpaceError::OutOfMemory => WANTED,
+    }
+}
+
+// The status of a fault of a birth.
+fn birth_fault_number(fault: BirthFault) -> u32
+    ensures { result ≡ spec.birth_fault_number fault }
+{
+    match fault {
+        BirthFault::Indexes => 71,
+        BirthFault::Calls => 72,
+        BirthFault::Jobs => 73,
+        BirthFault::Session(_) => 74,
+        BirthFault::Earlier => 75,
+    }
+}
+
+/// The status where no space begins.
+pub fn birth_error_number(error: BirthError) -> u32
+    ensures { result ≡ spec.birth_error_number error }
+{
+    match error {
+        BirthError::Fault(fault) => birth_fault_number(fault),
+        BirthError::OutOfMemory => WANTED,
     }
 }
 

@@ -231,14 +231,17 @@ condvar_sync = search (crosses, sendable) depth 60 fits 20000
 condvar_field_sync : IsSync (Condvar.the_field).row
 condvar_field_sync = search (crosses, sendable) depth 60 fits 20000
 
-pub keeper_sync : IsSync Keeper.the_row
-keeper_sync =
-    let T = Keeper.the_type in
+-- a keeper in a field of another struct
+pub keeper_field_sync : IsSync (Keeper.the_field).row
+keeper_field_sync =
     let one = condvar_field_sync in
-    recorded_sync (Struct (shape T)) T.D T.to T.to_one (struct_sync (shape T) (
+    struct_sync (shape Keeper.the_type) (
       search (crosses, sendable) depth 60,
-      (search sendable depth 30, (search (held_send, crosses, sendable) depth 60, (one, (one, (one, (Vec-sync Condvar.the_row condvar_sync, tt)))))),
-    ))
+      (search sendable depth 30, (search (crosses, sendable) depth 60, (search (held_send, crosses, sendable) depth 60, (one, (one, (one, (Vec-sync Condvar.the_row condvar_sync, tt))))))),
+    )
+
+pub keeper_sync : IsSync Keeper.the_row
+keeper_sync = (let T = Keeper.the_type in recorded_sync (Struct (shape T)) T.D T.to T.to_one keeper_field_sync)
 
 receipt_send : IsSend Receipt.the_row
 receipt_send =

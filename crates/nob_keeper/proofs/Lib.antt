@@ -8,3 +8,5 @@ pub mod Spots
 pub mod Marks
 pub mod Crossing
 pub mod Summaries
+pub mod Desks
+pub mod Marked

@@ -1,5 +1,5 @@
 -- A seat with one receipt more.
-use Rattle.std.proofs.Common.{◌≡◌, ◌⊎◌, inl, inr, Option, Some, unwrap_or, ℕ, ◌+◌, ◌-◌, ◌<◌, ◌≤◌, max, List, [], ◌∷◌, ◌++◌, length, reverse, ap, subst, ◌∙◌, arith}
+use Rattle.std.proofs.Common.{◌≡◌, ◌⊎◌, inl, inr, Option, Some, unwrap_or, ℕ, ◌+◌, ◌-◌, ◌<◌, ◌≤◌, max, List, [], ◌∷◌, ◌++◌, length, reverse, sym, ap, subst, ◌∙◌, arith}
 use Rattle.std.proofs.lemmas.List.{reverse-append}
 use Rattle.std.proofs.lemmas.Option.{slice_get_within}
 use Rattle.std.proofs.Math.Nat.{le-max_right}
@@ -52,3 +52,7 @@ newest_told entries (first ∷ earlier) receipt is has = subst (λ (r : Receipt)
 pub newest_there : (account : Account) (receipts : List Receipt) (receipt : Receipt) → newest receipts ≡ Some receipt → IsThere account receipts → (account.keep ≡ keeps.All) ⊎ IsAmong account.noted receipt.place
 newest_there account [] receipt is there = absurd (cc)
 newest_there account (first ∷ earlier) receipt is there = subst (λ (r : Receipt). (account.keep ≡ keeps.All) ⊎ IsAmong account.noted r.place) (first_is first receipt is) there
+
+-- the newest of receipts of which one was added is that one
+pub newest_is : (new old : List Receipt) (added receipt : Receipt) → new ≡ added ∷ old → newest new ≡ Some receipt → added ≡ receipt
+newest_is new old added receipt more is = first_is added receipt (sym (ap newest more) ∙ is)

@@ -1,5 +1,5 @@
 -- What is sealed of a space's entries, and what one entry more leaves of that.
-use Rattle.std.proofs.Common.{Bor, IfSome, ◌≡◌, ◌≤◌, ◌<◌, ℕ, ◌+◌, ◌-◌, ◌*◌, ◌==◌, Bool, true, false, ◌&&◌, nat_le, nat_lt, List, [], ◌∷◌, ◌++◌, length, map, filter, slice_get, Option, Some, None, if◌then◌else◌, cond, refl, sym, ap, subst, ◌∙◌, append_assoc, arith}
+use Rattle.std.proofs.Common.{Bor, IfSome, ◌≡◌, ◌≤◌, ◌<◌, ℕ, ◌+◌, ◌-◌, ◌*◌, ◌==◌, Bool, true, false, ◌&&◌, nat_le, nat_lt, List, [], ◌∷◌, ◌++◌, length, map, filter, slice_get, Option, Some, None, Result, Ok, Err, IfOk, if◌then◌else◌, cond, refl, sym, ap, subst, ◌∙◌, append_assoc, arith}
 use Prim.Native.Nat.{zero, suc}
 use Rattle.std.specs.List.{AllByRecursion, list_all}
 use Rattle.std.specs.Option.{option_or}
@@ -22,12 +22,13 @@ use Rattle.nob_model_traces.specs.Traces.{journal_at}
 use Rattle.nob_chain.specs.declared.seal.PeerSeal.{PeerSeal}
 use Rattle.nob_chain.specs.declared.seal.Seal.{Seal}
 use Rattle.nob_chain.specs.declared.segment.Segment.{Segment}
+use Rattle.nob_chain.specs.declared.chain.ChainParts.{ChainParts}
 use Rattle.nob_chain.specs.Seals.{first_other, are_others, IsDue}
 use Rattle.nob_chain.specs.Chains.{entries_of, HasDue, IsPart}
 use Rattle.nob_chain.specs.Writing.{HasSeal}
 use Rattle.nob_model_chains.specs.Sealing.{same_ending, is_said, is_right_seal, is_right_or_none, wrong_behind, wrong_among}
 use Rattle.nob_model_chains.proofs.Passing.{entries_one}
-use Rattle.nob_keeper.specs.Segments.{spaces_to, peer_in, peers_among, seal_in, sealed_by, IsFull, AreFull, AreFilled}
+use Rattle.nob_keeper.specs.Segments.{spaces_to, peer_in, peers_among, seal_in, sealed_by, IsSize, IsFull, AreFull, AreFilled, AreSomeFilled}
 
 -- ---- what is said of the peers is due, and right
 
@@ -324,3 +325,8 @@ lends_none all es place behind r same item is = same ∙ slice_get_past es behin
 -- what isn't above a part of a number isn't above it
 pub below : (low part rest whole : ℕ) → low ≤ part → part + rest ≡ whole → low ≤ whole
 below low part rest whole less is = omega (arith, less, is)
+
+-- segments that are filled to a size are filled to some
+pub some_filled : {E : Type 0} (size : ℕ) (result : Result ChainParts E) → IsSize size → IfOk result (λ chain. AreFilled size chain.segments) → IfOk result (λ chain. AreSomeFilled chain.segments)
+some_filled size (Ok chain) is filled = (size, is, filled)
+some_filled size (Err back) is filled = tt

@@ -10,6 +10,7 @@ use Rattle.nob_trace.specs.Stamps.{Rise, last_stamp}
 use Rattle.nob_model_traces.specs.Traces.{journal_at}
 use Rattle.nob_chain.specs.Chains.{entries_of}
 use Rattle.nob_chain.specs.declared.chain.ChainParts.{ChainParts}
+use Rattle.nob_keeper.specs.declared.identity.Identity.{Identity}
 use Rattle.nob_keeper.specs.declared.keep.Keep.{Keep}
 use Rattle.nob_keeper.specs.declared.keep.Keep.TheVariants as keeps
 use Rattle.nob_keeper.specs.declared.error.KeeperError.{KeeperError}
@@ -51,6 +52,22 @@ account_of space keep size entries noted = record { id = space.id; n = space.n; 
 -- what a chain with segments of this size keeps of its space: all
 abbrev pub account_in : ℕ → ChainParts → Account
 account_in size chain = record { id = chain.space; n = chain.n; limits = chain.limits; keep = keeps.All; size = size; entries = entries_of chain.segments; noted = [] }
+
+-- whose account it is
+abbrev pub identity_of : Account → Identity
+identity_of account = record { space = account.id; n = account.n; limits = account.limits }
+
+-- whose space this is
+abbrev pub identity_in : Owner → Identity
+identity_in space = record { space = space.id; n = space.n; limits = space.limits }
+
+-- whose chain it is
+abbrev pub identity_on : ChainParts → Identity
+identity_on chain = record { space = chain.space; n = chain.n; limits = chain.limits }
+
+-- what all is kept of where a space did nothing
+abbrev pub blank : Identity → Account
+blank identity = record { id = identity.space; n = identity.n; limits = identity.limits; keep = keeps.All; size = largest_size; entries = []; noted = [] }
 
 -- the entries of a space: each result is right after those before, and the stamps rise
 pub record AreEntries (id n : ℕ) (limits : Limits) (entries : List Stamped) : Type 0 where

@@ -6,4 +6,5 @@ pub mod Receipts
 pub mod Seats
 pub mod Closing
 pub mod Waking
+pub mod Desks
 pub mod Summaries

@@ -4,13 +4,16 @@ use Rattle.std.specs.List.{AllByRecursion}
 use Rattle.nob_model_types.specs.declared.event.Event.{Event}
 use Rattle.nob_past.specs.Lists.{Listed}
 use Rattle.nob_trace.specs.declared.stamped.Stamped.{Stamped}
+use Rattle.nob_keeper.specs.declared.identity.Identity.{Identity}
 use Rattle.nob_keeper.specs.declared.receipt.Receipt.{Receipt}
+use Rattle.nob_keeper.specs.declared.waking.Prospects.{Prospects}
 use Rattle.nob_keeper.specs.declared.error.KeeperError.{KeeperError}
 use Rattle.nob_keeper.specs.declared.error.KeeperError.TheVariants as errors
 use Rattle.nob_keeper.specs.declared.keep.Keep.TheVariants as keeps
 use Rattle.nob_keeper.specs.Staying.{IsAmong}
-use Rattle.nob_keeper.specs.Accounts.{Account, IsAccount, with_next, with_noted, fault_of}
+use Rattle.nob_keeper.specs.Accounts.{Account, IsAccount, identity_of, with_next, with_noted, fault_of}
 use Rattle.nob_keeper.specs.Receipts.{Told, IsNext, entry_of}
+use Rattle.nob_keeper.specs.Waking.{AreProspectsBehind}
 
 -- the newest receipt
 abbrev pub newest : List Receipt → Option Receipt
@@ -70,13 +73,28 @@ AreAllThere account (seat ∷ seats) = IsThere account seat × AreAllThere accou
 abbrev pub Adds : List Receipt → List Receipt → Event → ℕ → Type 0
 Adds old new event seen = (receipt : Receipt) × (new ≡ receipt ∷ old) × (receipt.event ≡ event) × (seen < receipt.stamp) × Above receipt.place old
 
--- the receipt that was added is that of the next entry of a trace whose results are right and which has the receipt before
-abbrev pub AddsNext : List Receipt → List Receipt → Event → ℕ → Type 0
-AddsNext old new event seen = (receipt : Receipt) × (before : Account) × (new ≡ receipt ∷ old) × IsAccount before × Has before.entries old × IsNext before event seen receipt
+-- a receipt was added, and it is that of the next entry of this account, whose results are right and which has the receipt before
+pub record AddsNextOf (account : Account) (receipt : Receipt) (old new : List Receipt) (event : Event) (seen : ℕ) : Type 0 where
+  pub added : new ≡ receipt ∷ old
+  pub is_account : IsAccount account
+  pub has : Has account.entries old
+  pub next : IsNext account event seen receipt
+
+-- the receipt that was added is that of the next entry of this space
+abbrev pub AddsNext : Identity → List Receipt → List Receipt → Event → ℕ → Type 0
+AddsNext identity old new event seen = (account : Account) × (receipt : Receipt) × (identity_of account ≡ identity) × AddsNextOf account receipt old new event seen
+
+-- and right behind that entry there was just so much of what it may have made possible
+abbrev pub AddsAndOpens : Identity → List Receipt → List Receipt → Event → ℕ → Prospects → Type 0
+AddsAndOpens identity old new event seen prospects =
+    (account : Account) × (receipt : Receipt)
+    × (identity_of account ≡ identity)
+    × AddsNextOf account receipt old new event seen
+    × AreProspectsBehind (with_next account (entry_of receipt)) receipt prospects
 
 -- what is kept has one entry more, the next one, of which the receipt that was added tells
 abbrev pub AddsTo : Account → Account → List Receipt → List Receipt → Event → ℕ → Type 0
-AddsTo before after old new event seen = (receipt : Receipt) × (new ≡ receipt ∷ old) × IsNext before event seen receipt × (after ≡ with_noted after.noted (with_next before (entry_of receipt)))
+AddsTo before after old new event seen = (receipt : Receipt) × AddsNextOf before receipt old new event seen × (after ≡ with_noted after.noted (with_next before (entry_of receipt)))
 
 -- what refuses a call, memory aside: the trace hasn't the seat's newest receipt, or its entry doesn't stay; or no entry more can be made
 abbrev pub IsFault : Account → List Receipt → ℕ → KeeperError → Type 0

@@ -7,10 +7,11 @@ use Rattle.nob_model.specs.Tallies.{tally, live_count, backlog}
 use Rattle.nob_trace.specs.Stamps.{last_stamp}
 use Rattle.nob_chain.specs.Chains.{joined}
 use Rattle.nob_chain.specs.declared.chain.ChainParts.{ChainParts}
-use Rattle.nob_keeper.specs.Accounts.{Account, IsAccount, history_in}
+use Rattle.nob_keeper.specs.Accounts.{Account, IsAccount, history_in, identity_of, identity_on}
 use Rattle.nob_keeper.specs.Closing.{AreOf, receipts_of}
 use Rattle.nob_keeper.specs.Seats.{HasAll}
 use Rattle.nob_keeper.specs.Segments.{IsSealedChain, spaces_to}
+use Rattle.nob_keeper.specs.declared.identity.Identity.{Identity}
 use Rattle.nob_keeper.specs.declared.receipt.Receipt.{Receipt}
 use Rattle.nob_keeper.specs.declared.summary.PeerTally.{PeerTally}
 use Rattle.nob_keeper.specs.declared.summary.Summary.{Summary}
@@ -38,21 +39,31 @@ pub record IsSummary (account : Account) (summary : Summary) : Type 0 where
   pub live : summary.live ≡ live_count account.id (history_in account)
   pub peers : summary.peers ≡ tallies_among account (spaces_to account.n)
 
--- a tally is that of the session with a peer in some account of right entries, be it an empty one
+-- a tally is that of the session with a peer in some account of this space, whose entries are right, be it an empty one
+abbrev pub IsTallyOf : Identity → ℕ → Option Tally → Type 0
+IsTallyOf identity peer answer = (account : Account) × (identity_of account ≡ identity) × IsAccount account × (answer ≡ tally_in account peer)
+
+-- a number is how many objects are live in some such account
+abbrev pub IsLiveOf : Identity → ℕ → Type 0
+IsLiveOf identity count = (account : Account) × (identity_of account ≡ identity) × IsAccount account × (count ≡ live_count account.id (history_in account))
+
+-- a backlog is that of some such account
+abbrev pub IsBacklogOf : Identity → Backlog → Type 0
+IsBacklogOf identity answer = (account : Account) × (identity_of account ≡ identity) × IsAccount account × (answer ≡ backlog (history_in account))
+
+-- the same of whatever space
 abbrev pub IsTally : ℕ → Option Tally → Type 0
-IsTally peer answer = (account : Account) × IsAccount account × (answer ≡ tally_in account peer)
+IsTally peer answer = (identity : Identity) × IsTallyOf identity peer answer
 
--- a number is how many objects are live in some account of right entries
 abbrev pub IsLive : ℕ → Type 0
-IsLive count = (account : Account) × IsAccount account × (count ≡ live_count account.id (history_in account))
+IsLive count = (identity : Identity) × IsLiveOf identity count
 
--- a backlog is that of some account of right entries
 abbrev pub IsBacklog : Backlog → Type 0
-IsBacklog answer = (account : Account) × IsAccount account × (answer ≡ backlog (history_in account))
+IsBacklog answer = (identity : Identity) × IsBacklogOf identity answer
 
--- a summary is what the right entries of some account come to, of which the newest receipts of these seats are told
-abbrev pub IsSummaryOf : List (List Receipt) → Summary → Type 0
-IsSummaryOf seats summary = (account : Account) × IsAccount account × HasAll account.entries seats × IsSummary account summary
+-- a summary is what the right entries of some account of this space come to, of which the newest receipts of these seats are told
+abbrev pub IsSummaryOf : Identity → List (List Receipt) → Summary → Type 0
+IsSummaryOf identity seats summary = (account : Account) × (identity_of account ≡ identity) × IsAccount account × HasAll account.entries seats × IsSummary account summary
 
 -- whether a record is a chain
 abbrev pub is_chain : Record → Bool
@@ -64,7 +75,7 @@ abbrev pub chain_in : Record → Option ChainParts
 chain_in (records.Chain chain) = Some chain
 chain_in (records.Summary summary) = None
 
--- a record is a chain of right entries, all sealed, of which these seats have the receipts, each once; or a summary of right entries of which the newest receipts of these seats are told
-abbrev pub IsRecordOf : List (List Receipt) → Record → Type 0
-IsRecordOf seats (records.Chain chain) = AreOf (joined chain).entries (receipts_of seats) × IsSealedChain chain
-IsRecordOf seats (records.Summary summary) = IsSummaryOf seats summary
+-- a record is a chain of right entries of this space, all sealed, of which these seats have the receipts, each once; or a summary of right entries of this space of which the newest receipts of these seats are told
+abbrev pub IsRecordOf : Identity → List (List Receipt) → Record → Type 0
+IsRecordOf identity seats (records.Chain chain) = (identity_on chain ≡ identity) × AreOf (joined chain).entries (receipts_of seats) × IsSealedChain chain
+IsRecordOf identity seats (records.Summary summary) = IsSummaryOf identity seats summary

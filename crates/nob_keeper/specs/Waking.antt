@@ -1,15 +1,19 @@
 -- What an answered event may have made possible at its space, and what there is to take care of.
-use Rattle.std.specs.Prelude.{◌≡◌, ◌≤◌, ℕ, Bool, true, false, ◌||◌, is_some}
+use Rattle.std.specs.Prelude.{◌≡◌, ◌↔◌, ◌≤◌, ◌⊎◌, ℕ, ◌%◌, Bool, true, false, ◌||◌, ◌&&◌, Result, Ok, Err, Some, is_some, slice_get, if◌then◌else◌}
+use Rattle.std.specs.List.{Contains}
 use Rattle.nob_model_types.specs.declared.event.Event.{Event}
 use Rattle.nob_model_types.specs.declared.event.Event.TheVariants as events
 use Rattle.nob_model_types.specs.declared.answer.Answer.{Answer}
 use Rattle.nob_model_types.specs.declared.answer.Answer.TheVariants as answers
 use Rattle.nob_model_history.specs.declared.history.History.{History}
-use Rattle.nob_model.specs.Next.{can_settle, can_clean, to_withdraw}
+use Rattle.nob_model_types.specs.declared.refusal.Refusal.{Refusal}
+use Rattle.nob_model.specs.Next.{can_settle, can_clean, can_claim, to_withdraw, reply_ready}
 use Rattle.nob_session.specs.declared.due.Due.{Due}
 use Rattle.nob_session.specs.declared.due.Due.TheVariants as dues
 use Rattle.nob_space_state.specs.Dues.{due}
-use Rattle.nob_keeper.specs.Accounts.{Account, history_in}
+use Rattle.nob_keeper.specs.Accounts.{Account, history_in, is_full}
+use Rattle.nob_keeper.specs.declared.receipt.Receipt.{Receipt}
+use Rattle.nob_keeper.specs.declared.waking.Prospects.{Prospects}
 use Rattle.nob_keeper.specs.declared.waking.Wakes.{Wakes}
 
 -- whether there is something to settle, to clean or to withdraw
@@ -81,3 +85,26 @@ may_reply (_) = false
 -- what an answered event may have made possible
 abbrev pub wakes_of : Event → Answer → Wakes
 wakes_of event answer = record { send = may_send event answer; care = may_care event answer; claim = may_claim event answer; reply = may_reply event }
+
+-- all of it, or nothing
+abbrev pub all_wakes : Bool → Wakes
+all_wakes all = record { send = all; care = all; claim = all; reply = all }
+
+-- what the entry of a receipt may have made possible: a refused event changed nothing
+abbrev pub wakes_by : Event → Result Answer Refusal → Wakes
+wakes_by event (Ok answer) = wakes_of event answer
+wakes_by event (Err refusal) = all_wakes false
+
+-- what the newest entry of an account may have made possible, of which this receipt tells: all where the account is full
+abbrev pub wakes_behind : Account → Receipt → Wakes
+wakes_behind account receipt = if is_full account then all_wakes true else wakes_by receipt.event receipt.result
+
+-- what there is of what an event may have made possible: of each kind of work there is some, or the account is full
+pub record AreProspects (account : Account) (wakes : Wakes) (prospects : Prospects) : Type 0 where
+  pub send : (prospects.send ≡ true) ↔ ((wakes.send ≡ true) × ((is_full account ≡ true) ⊎ HasNew account))
+  pub care : prospects.care ≡ (wakes.care && (is_full account || can_care account.id account.n (history_in account)))
+  pub claim : prospects.claim ≡ (wakes.claim && (is_full account || can_claim (history_in account)))
+
+-- the same of what the newest entry of an account may have made possible, of which this receipt tells
+abbrev pub AreProspectsBehind : Account → Receipt → Prospects → Type 0
+AreProspectsBehind account receipt prospects = AreProspects account (wakes_behind account receipt) prospects

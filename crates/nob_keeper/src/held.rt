@@ -1,16 +1,23 @@
 //! What stands under a keeper's lock.
 
-ghost use Rattle.std.specs.Prelude.{◌≡◌, OnOk, OnErr};
+ghost use Rattle.std.specs.Prelude.{◌≡◌, ◌↔◌, ◌≤◌, ◌&&◌, true, false, replicate, OnOk, OnErr, IfOk};
+ghost use Rattle.nob_model.specs.Next as next;
+ghost use Rattle.nob_keeper.specs.Accounts as accounts;
+ghost use Rattle.nob_keeper.specs.Desks as desks;
 ghost use Rattle.nob_keeper.specs.Seats as seats;
+ghost use Rattle.nob_keeper.specs.Summaries as summaries;
+ghost use Rattle.nob_keeper.specs.Waking as waking;
+ghost use Rattle.nob_keeper.specs.declared.waking.WorkKind.TheVariants as kinds;
 
-use crate::desk::{Desk, reply_place};
+use crate::desk::{Desk, REPLY_PLACES, reply_place};
 use crate::error::KeeperError;
+use crate::identity::Identity;
 use crate::kept::Kept;
 use crate::receipt::Receipt;
 use crate::seat::Seat;
-use crate::waking::{Wakes, WorkKind, wakes_of};
+use crate::waking::{Prospects, Wakes, WorkKind, wakes_of};
 use nob_ids::{CallNo, SpaceId};
-use nob_model_types::Event;
+use nob_model_types::{Backlog, Event, Here, Tally};
 use nob_space::{Due, Work};
 
 /// What stands under a keeper's lock: the space with its trace, and who waits.
@@ -19,33 +26,15 @@ pub(crate) struct Held {
     pub(crate) desk: Desk,
 }
 
-/// Whom to wake once the lock is let go, and what the entry may have made possible.
+/// Whom to wake once the lock is let go, and what the entry made possible.
 #[derive(Clone, Copy, Debug)]
 pub(crate) struct Notice {
     pub(crate) send: bool,
     pub(crate) care: bool,
     pub(crate) claim: bool,
-    // A bit for each place at which one waits for replies.
-    pub(crate) replies: u32,
-    pub(crate) wakes: Wakes,
-}
-
-impl Notice {
-    // All, or nobody.
-    fn of_all(all: bool) -> Notice {
-        Notice {
-            send: all,
-            care: all,
-            claim: all,
-            replies: if all { u32::MAX } else { 0 },
-            wakes: Wakes {
-                send: all,
-                care: all,
-                claim: all,
-                reply: all,
-            },
-        }
-    }
+    // One for each place at which one waits for replies.
+    pub(crate) replies: [bool; REPLY_PLACES],
+    pub(crate) prospects: Prospects,
 }
 
 /// What a space could do next, read under the lock.
@@ -90,71 +79,50 @@ pub enum Wake {
 }
 
 impl Held {
-    // One call of a seat, and whom to wake after it.
+    // One call of a seat of this space, and whom to wake after it. K4 where it is another space, which
+    // it never is.
     pub(crate) fn call(
         &mut self,
+        identity: &Identity,
         seat: &mut Seat,
         event: &Event,
         seen: u64,
     ) -> Result<Notice, KeeperError>
         ensures adds { OnOk result (seats.Adds seat.old seat.new event.now seen) }
-        ensures next { OnOk result (seats.AddsNext seat.old seat.new event.now seen) }
+        ensures next { OnOk result (seats.AddsNext identity.now seat.old seat.new event.now seen) }
+        ensures opens { IfOk result (λ notice.
+            seats.AddsAndOpens identity.now seat.old seat.new event.now seen notice.prospects) }
+        ensures notice { IfOk result (λ notice.
+            desks.IsNoticeOf self.new.kept self.old.desk self.new.desk seat.new notice) }
         ensures err { OnErr result (seat.new ≡ seat.old) }
+        ensures same { OnErr result (self.new ≡ self.old) }
     {
+        if !self.kept.is_of(identity) {
+            return Err(KeeperError::Seats);
+        }
         seat.ask(&mut self.kept, event, seen)?;
-        Ok(self.notice(seat))
-    }
-
-    // Whom to wake after the newest receipt of a seat.
-    fn notice(&mut self, seat: &Seat) -> Notice {
-        if self.kept.is_full() {
-            return Notice::of_all(true);
-        }
-        match seat.newest() {
-            Some(receipt) => self.notice_of(receipt),
-            None => Notice::of_all(false),
-        }
-    }
-
-    // Whom to wake after the entry of a receipt.
-    fn notice_of(&mut self, receipt: &Receipt) -> Notice {
-        let Ok(answer) = &receipt.result else {
-            return Notice::of_all(false);
+        let Some(receipt) = seat.newest() else {
+            unreachable!();
         };
-        let wakes = wakes_of(&receipt.event, answer);
-        self.desk.note(wakes, receipt.place);
-        let mut notice = Notice::of_all(false);
-        notice.wakes = wakes;
-        notice.send = wakes.send && self.desk.is_parked(WorkKind::Send);
-        self.look_for_work(wakes, &mut notice);
-        if wakes.reply {
-            self.look_for_replies(&mut notice);
-        }
-        notice
-    }
-
-    // Who waits for a job or to take care of something is woken only where there is such work.
-    fn look_for_work(&self, wakes: Wakes, notice: &mut Notice) {
-        notice.care = wakes.care && self.desk.is_parked(WorkKind::Care) && self.kept.can_care();
-        notice.claim = wakes.claim && self.desk.is_parked(WorkKind::Claim) && self.kept.can_claim();
-    }
-
-    // Who waits for a reply is woken where it is ready.
-    fn look_for_replies(&self, notice: &mut Notice) {
-        for call in self.desk.waiting() {
-            if self.kept.reply_ready(*call) {
-                notice.replies |= 1 << reply_place(*call);
-            }
-        }
+        let notice = notice_of(&self.kept, &self.desk, receipt);
+        self.desk.note(wakes_by(receipt), receipt.place);
+        Ok(notice)
     }
 
     // Whether the reply to a call isn't ready and may still come.
-    pub(crate) fn awaits(&self, call: CallNo) -> bool {
+    pub(crate) fn awaits(&self, call: CallNo) -> bool
+        ensures { (result ≡ true) ↔ ((accounts.is_full self.now.kept ≡ false)
+            × (next.reply_ready call (accounts.history_in self.now.kept) ≡ false)) }
+    {
         !self.kept.is_full() && !self.kept.reply_ready(call)
     }
 
     // Whether there is nothing new of a kind of work since the trace had so many entries.
-    pub(crate) fn idles(&self, kind: WorkKind, place: u64) -> bool {
+    pub(crate) fn idles(&self, kind: WorkKind, place: u64) -> bool
+        ensures { (result ≡ true) ↔ (((desks.watch_of kind self.now.desk).last ≤ place)
+            × (accounts.is_full self.now.kept ≡ false)
+            × ((desks.watch_of kind self.now.desk).stopped ≡ false)) }
+    {
         self.desk.is_idle(kind, place) && !self.kept.is_full() && !self.desk.is_stopped(kind)
     }
 
@@ -175,6 +143,41 @@ impl Held {
             place: self.kept.len(),
             work: self.kept.work(),
         }
+    }
+
+    // What went each way on the session of this space with a peer: none where it is no peer. Where it
+    // is another space, which it never is, what is said of one that did nothing.
+    pub(crate) fn tally(&self, identity: &Identity, peer: SpaceId) -> Option<Tally>
+        ensures { summaries.IsTallyOf identity.now peer result }
+    {
+        if !self.kept.is_of(identity) {
+            return first_tally(identity, peer);
+        }
+        self.kept.tally(peer)
+    }
+
+    // How many objects of this space are live.
+    pub(crate) fn live(&self, identity: &Identity) -> u64
+        ensures { summaries.IsLiveOf identity.now result }
+    {
+        if !self.kept.is_of(identity) {
+            return 0;
+        }
+        self.kept.live()
+    }
+
+    // What isn't done yet at this space.
+    pub(crate) fn backlog(&self, identity: &Identity) -> Backlog
+        ensures { summaries.IsBacklogOf identity.now result }
+    {
+        if !self.kept.is_of(identity) {
+            return Backlog {
+                calls: 0,
+                ready: 0,
+                running: 0,
+            };
+        }
+        self.kept.backlog()
     }
 
     // Whether there is a job to claim, and something to take care of.
@@ -199,4 +202,126 @@ impl Held {
             due,
         }
     }
+}
+
+// What the event of a receipt may have made possible. A refused one changed nothing.
+fn wakes_by(receipt: &Receipt) -> Wakes
+    ensures { result ≡ waking.wakes_by receipt.now.event receipt.now.result }
+{
+    match &receipt.result {
+        Ok(answer) => wakes_of(&receipt.event, answer),
+        Err(_) => Wakes {
+            send: false,
+            care: false,
+            claim: false,
+            reply: false,
+        },
+    }
+}
+
+// Whom to wake after the newest entry, of which a receipt tells.
+fn notice_of(kept: &Kept, desk: &Desk, receipt: &Receipt) -> Notice
+    ensures { desks.IsNotice kept.now desk.now receipt.now result }
+{
+    if kept.is_full() {
+        return notice_to_all(kept);
+    }
+    let wakes = wakes_by(receipt);
+    Notice {
+        send: wakes_sender(desk, wakes.send),
+        care: wakes_carer(kept, desk, wakes.care),
+        claim: wakes_claimer(kept, desk, wakes.claim),
+        replies: replies_of(kept, desk.waiting(), wakes.reply),
+        prospects: kept.prospects(wakes),
+    }
+}
+
+// Whether who transmits is woken, where an entry may have made something to transmit.
+fn wakes_sender(desk: &Desk, may: bool) -> bool
+    ensures { result ≡ (may && desks.is_parked kinds.Send desk.now) }
+{
+    may && desk.is_parked(WorkKind::Send)
+}
+
+// Whether who takes care of something is woken: where there is something.
+fn wakes_carer(kept: &Kept, desk: &Desk, may: bool) -> bool
+    ensures { result ≡ (may && (desks.is_parked kinds.Care desk.now
+        && waking.can_care kept.now.id kept.now.n (accounts.history_in kept.now))) }
+{
+    may && (desk.is_parked(WorkKind::Care) && kept.can_care())
+}
+
+// Whether who claims jobs is woken: where there is one.
+fn wakes_claimer(kept: &Kept, desk: &Desk, may: bool) -> bool
+    ensures { result ≡ (may && (desks.is_parked kinds.Claim desk.now
+        && next.can_claim (accounts.history_in kept.now))) }
+{
+    may && (desk.is_parked(WorkKind::Claim) && kept.can_claim())
+}
+
+// All are woken.
+fn notice_to_all(kept: &Kept) -> Notice
+    ensures prospects { waking.AreProspects kept.now (waking.all_wakes true) result.prospects }
+    ensures send { result.send ≡ true }
+    ensures care { result.care ≡ true }
+    ensures claim { result.claim ≡ true }
+    ensures replies { result.replies ≡ replicate 32 true }
+{
+    Notice {
+        send: true,
+        care: true,
+        claim: true,
+        replies: [true; REPLY_PLACES],
+        prospects: kept.prospects(Wakes {
+            send: true,
+            care: true,
+            claim: true,
+            reply: true,
+        }),
+    }
+}
+
+// The places of those who wait for replies that are ready, where an entry may have made some so.
+fn replies_of(kept: &Kept, waiting: &[CallNo], may: bool) -> [bool; REPLY_PLACES]
+    ensures { desks.AreMarked (λ call. may
+        && next.reply_ready call (accounts.history_in kept.now)) result waiting.now }
+{
+    if !may {
+        return [false; REPLY_PLACES];
+    }
+    ready_places(kept, waiting)
+}
+
+// The places of those who wait for replies that are ready.
+fn ready_places(kept: &Kept, waiting: &[CallNo]) -> [bool; REPLY_PLACES]
+    ensures { desks.AreMarked (λ call. next.reply_ready call (accounts.history_in kept.now))
+        result waiting.now }
+{
+    let mut places = [false; REPLY_PLACES];
+    for call in waiting {
+        if kept.reply_ready(*call) {
+            places[reply_place(*call)] = true;
+        }
+    }
+    places
+}
+
+// What is said of the session with a peer by a space that did nothing.
+#[tactic(auto, using(crate::proofs::Summaries::blank_some, crate::proofs::Summaries::blank_none))]
+fn first_tally(identity: &Identity, peer: SpaceId) -> Option<Tally>
+    ensures { result ≡ summaries.tally_in (accounts.blank identity.now) peer }
+{
+    let here = Here {
+        space: identity.space,
+        n: identity.n.get(),
+    };
+    if !here.is_peer(peer) {
+        return None;
+    }
+    Some(Tally {
+        session: 1,
+        sent: 0,
+        acted: 0,
+        closed: None,
+    })
 }

@@ -4,6 +4,7 @@ ghost use Rattle.std.specs.Prelude.{◌≡◌, ◌⊎◌, ◌≤◌, [], OnOk, O
 ghost use Rattle.nob_model_types.specs.declared.event.Event.TheVariants as events;
 ghost use Rattle.nob_space.specs.Spaces.{StandsFor};
 ghost use Rattle.nob_chain.specs.Chains.{joined};
+ghost use Rattle.nob_keeper.specs.Accounts as accounts;
 ghost use Rattle.nob_keeper.specs.Closing as closing;
 ghost use Rattle.nob_keeper.specs.Seats as seats;
 ghost use Rattle.nob_keeper.specs.Segments as segments;
@@ -13,6 +14,7 @@ ghost use Rattle.nob_keeper.specs.declared.keep.Keep.TheVariants as keeps;
 use crate::desk::{Desk, REPLY_PLACES, reply_place};
 use crate::error::KeeperError;
 use crate::held::{Chores, Dues, Held, Look, Notice, Wake};
+use crate::identity::Identity;
 use crate::keep::Keep;
 use crate::kept::{Kept, begun};
 use crate::locking::lock_soon;
@@ -33,6 +35,8 @@ pub struct Keeper {
     alloc: Global,
     /// What it keeps of the entries.
     pub keep: Keep,
+    /// Which space it has.
+    pub identity: Identity,
     held: Mutex<Held>,
     // Who waits for work of a kind waits here.
     to_send: Condvar,
@@ -51,6 +55,8 @@ impl Keeper {
         requires new { StandsFor space [] }
         requires some { 1 ≤ space.n }
         ensures keep { IfOk result (λ keeper. keeper.keep ≡ keeps.All) }
+        ensures identity { IfOk result (λ keeper.
+            keeper.identity ≡ accounts.identity_in space) }
         ensures back { IfErr result (λ back. back ≡ space) }
     {
         Keeper::keeping(alloc, space, Keep::All)
@@ -61,6 +67,8 @@ impl Keeper {
         requires new { StandsFor space [] }
         requires some { 1 ≤ space.n }
         ensures keep { IfOk result (λ keeper. keeper.keep ≡ keep) }
+        ensures identity { IfOk result (λ keeper.
+            keeper.identity ≡ accounts.identity_in space) }
         ensures back { IfErr result (λ back. back ≡ space) }
     {
         keeper_of(alloc, space, keep, LARGEST_SIZE)
@@ -76,6 +84,8 @@ impl Keeper {
         requires new { StandsFor space [] }
         requires some { 1 ≤ space.n }
         ensures keep { IfOk result (λ keeper. keeper.keep ≡ keeps.All) }
+        ensures identity { IfOk result (λ keeper.
+            keeper.identity ≡ accounts.identity_in space) }
         ensures size { OnOk result (segments.IsSize size) }
         ensures fault { IfErr result (λ back. segments.RefusesSize size back.0) }
         ensures back { IfErr result (λ back. back.1 ≡ space) }
@@ -112,7 +122,7 @@ impl Keeper {
         seen: u64,
     ) -> Result<(), KeeperError>
         ensures adds { OnOk result (seats.Adds seat.old seat.new event.now seen) }
-        ensures next { OnOk result (seats.AddsNext seat.old seat.new event.now seen) }
+        ensures next { OnOk result (seats.AddsNext self.now.identity seat.old seat.new event.now seen) }
         ensures err { OnErr result (seat.new ≡ seat.old) }
     {
         self.call_and_look(rt, seat, event, seen)?;
@@ -129,18 +139,19 @@ impl Keeper {
         event: &Event,
         seen: u64,
     ) -> Result<Prospects, KeeperError>
+        ensures opens { IfOk result (λ prospects.
+            seats.AddsAndOpens self.now.identity seat.old seat.new event.now seen prospects) }
         ensures adds { OnOk result (seats.Adds seat.old seat.new event.now seen) }
-        ensures next { OnOk result (seats.AddsNext seat.old seat.new event.now seen) }
+        ensures next { OnOk result (seats.AddsNext self.now.identity seat.old seat.new event.now seen) }
         ensures err { OnErr result (seat.new ≡ seat.old) }
     {
         // Room is made before the lock is taken, if it can be: it is asked for again under it.
         let _room = seat.make_room();
         let mut held = lock_soon(rt, &self.held);
-        let notice = held.call(seat, event, seen)?;
-        let prospects = held.kept.prospects(notice.wakes);
+        let notice = held.call(&self.identity, seat, event, seen)?;
         drop(held);
         self.wake(&notice);
-        Ok(prospects)
+        Ok(notice.prospects)
     }
 
     /// Waits until TakeReply of a call would say anything but that the reply isn't ready, or the
@@ -154,7 +165,7 @@ impl Keeper {
         call: CallNo,
     ) -> Result<(), KeeperError>
         ensures adds { OnOk result (seats.Adds seat.old seat.new (events.TakeReply call) 0) }
-        ensures next { OnOk result (seats.AddsNext seat.old seat.new (events.TakeReply call) 0) }
+        ensures next { OnOk result (seats.AddsNext self.now.identity seat.old seat.new (events.TakeReply call) 0) }
         ensures err { OnErr result (seat.new ≡ seat.old) }
     {
         self.wait_reply_and_look(rt, seat, call)?;
@@ -168,8 +179,10 @@ impl Keeper {
         seat: &mut Seat,
         call: CallNo,
     ) -> Result<Prospects, KeeperError>
+        ensures opens { IfOk result (λ prospects. seats.AddsAndOpens self.now.identity seat.old
+            seat.new (events.TakeReply call) 0 prospects) }
         ensures adds { OnOk result (seats.Adds seat.old seat.new (events.TakeReply call) 0) }
-        ensures next { OnOk result (seats.AddsNext seat.old seat.new (events.TakeReply call) 0) }
+        ensures next { OnOk result (seats.AddsNext self.now.identity seat.old seat.new (events.TakeReply call) 0) }
         ensures err { OnErr result (seat.new ≡ seat.old) }
     {
         let mut held = lock_soon(rt, &self.held);
@@ -179,11 +192,10 @@ impl Keeper {
             held = self.replies[reply_place(call)].wait_while(rt, held, |held| held.awaits(call));
             held.desk.leave(call);
         }
-        let notice = held.call(seat, &Event::TakeReply(call), 0)?;
-        let prospects = held.kept.prospects(notice.wakes);
+        let notice = held.call(&self.identity, seat, &Event::TakeReply(call), 0)?;
         drop(held);
         self.wake(&notice);
-        Ok(prospects)
+        Ok(notice.prospects)
     }
 
     /// What the space could do next. It costs what `Space::work` costs, under the lock.
@@ -238,24 +250,24 @@ impl Keeper {
     /// What went each way on the session with a peer, and how it ended: none where it is no peer.
     /// Constant time, under the lock.
     pub fn tally<R: Wait>(&self, rt: &R, peer: SpaceId) -> Option<Tally>
-        ensures { summaries.IsTally peer result }
+        ensures { summaries.IsTallyOf self.now.identity peer result }
     {
-        lock_soon(rt, &self.held).kept.tally(peer)
+        lock_soon(rt, &self.held).tally(&self.identity, peer)
     }
 
     /// How many objects of the space are live. Constant time, under the lock.
     pub fn live<R: Wait>(&self, rt: &R) -> u64
-        ensures { summaries.IsLive result }
+        ensures { summaries.IsLiveOf self.now.identity result }
     {
-        lock_soon(rt, &self.held).kept.live()
+        lock_soon(rt, &self.held).live(&self.identity)
     }
 
     /// How many own calls aren't taken, how many jobs are ready, and how many run. Constant time,
     /// under the lock.
     pub fn backlog<R: Wait>(&self, rt: &R) -> Backlog
-        ensures { summaries.IsBacklog result }
+        ensures { summaries.IsBacklogOf self.now.identity result }
     {
-        lock_soon(rt, &self.held).kept.backlog()
+        lock_soon(rt, &self.held).backlog(&self.identity)
     }
 
     /// Ends the keeper and gives the chain of all entries, where the seats' receipts are those of its
@@ -263,6 +275,8 @@ impl Keeper {
     /// where the entries or the receipts of a seat weren't kept. What isn't sealed yet is sealed.
     /// Linear in the entries and what they own.
     pub fn close_with(self, seats: Vec<Seat>) -> Result<Chain, (KeeperError, Keeper, Vec<Seat>)>
+        ensures identity { IfOk result (λ chain.
+            accounts.identity_on chain ≡ self.identity) }
         ensures receipts { IfOk result (λ chain.
             closing.AreOf (joined chain).entries (closing.receipts_of seats.items)) }
         ensures sealed { IfOk result (λ chain. segments.IsSealedChain chain) }
@@ -280,6 +294,7 @@ impl Keeper {
         let Keeper {
             alloc,
             keep,
+            identity,
             held,
             to_send,
             to_care,
@@ -287,13 +302,14 @@ impl Keeper {
             replies,
         } = self;
         let Held { kept, desk } = held.into_inner();
-        match kept.close_with(seats) {
+        match kept.close_as(&identity, seats) {
             Ok(chain) => Ok(chain),
             Err((error, kept, seats)) => Err((
                 error,
                 Keeper {
                     alloc,
                     keep,
+                    identity,
                     held: Mutex::new(Held { kept, desk }),
                     to_send,
                     to_care,
@@ -309,7 +325,8 @@ impl Keeper {
     /// newest receipt of each seat is told of them: else K4, or K2 where memory is wanted, and all is
     /// handed back.
     pub fn end_with(self, seats: Vec<Seat>) -> Result<Summary, (KeeperError, Keeper, Vec<Seat>)>
-        ensures summary { IfOk result (λ summary. summaries.IsSummaryOf seats.items summary) }
+        ensures summary { IfOk result (λ summary. summaries.IsSummaryOf self.identity
+            seats.items summary) }
         ensures back { IfErr result (λ back. back.2.items ≡ seats.items) }
         ensures only { IfErr result (λ back. (back.0 ≡ KeeperError.Seats)
             ⊎ (back.0 ≡ KeeperError.OutOfMemory)) }
@@ -317,6 +334,7 @@ impl Keeper {
         let Keeper {
             alloc,
             keep,
+            identity,
             held,
             to_send,
             to_care,
@@ -324,13 +342,14 @@ impl Keeper {
             replies,
         } = self;
         let Held { kept, desk } = held.into_inner();
-        match kept.end_with(seats) {
+        match kept.end_as(&identity, seats) {
             Ok(summary) => Ok(summary),
             Err((error, kept, seats)) => Err((
                 error,
                 Keeper {
                     alloc,
                     keep,
+                    identity,
                     held: Mutex::new(Held { kept, desk }),
                     to_send,
                     to_care,
@@ -347,6 +366,7 @@ impl Keeper {
         let Keeper {
             alloc: _,
             keep: _,
+            identity: _,
             held,
             to_send: _,
             to_care: _,
@@ -377,11 +397,8 @@ impl Keeper {
         if notice.claim {
             self.to_claim.notify_all();
         }
-        if notice.replies == 0 {
-            return;
-        }
-        for (place, waiters) in self.replies.iter().enumerate() {
-            if notice.replies & (1 << place) != 0 {
+        for (waiters, is_ready) in self.replies.iter().zip(notice.replies.iter()) {
+            if *is_ready {
                 waiters.notify_all();
             }
         }
@@ -408,6 +425,7 @@ fn keeper_of(alloc: Global, space: Space, keep: Keep, size: u32) -> Result<Keepe
     requires some { 1 ≤ space.n }
     requires size { segments.IsSize size }
     ensures keep { IfOk result (λ keeper. keeper.keep ≡ keep) }
+    ensures identity { IfOk result (λ keeper. keeper.identity ≡ accounts.identity_in space) }
     ensures back { IfErr result (λ back. back ≡ space) }
 {
     let Some(replies) = reply_places(alloc) else {
@@ -417,6 +435,7 @@ fn keeper_of(alloc: Global, space: Space, keep: Keep, size: u32) -> Result<Keepe
     Ok(Keeper {
         alloc,
         keep,
+        identity: kept.identity(),
         held: Mutex::new(Held {
             kept,
             desk: Desk::new(alloc),

@@ -20,6 +20,7 @@ ghost use Rattle.nob_keeper.specs.declared.error.KeeperError.{KeeperError as Kee
 
 use crate::closing::{is_told, judge};
 use crate::error::KeeperError;
+use crate::identity::Identity;
 use crate::keep::Keep;
 use crate::noted::{Noted, find, make_room, put};
 use crate::receipt::Receipt;
@@ -113,6 +114,24 @@ impl Kept {
             Ok(kept) => Ok(kept),
             Err(space) => Err((KeeperError::OutOfMemory, space)),
         }
+    }
+
+    /// Which space it is.
+    pub fn identity(&self) -> Identity
+        ensures { result ≡ accounts.identity_of self.now }
+    {
+        Identity {
+            space: self.space.id(),
+            n: self.trail.n,
+            limits: self.space.limits(),
+        }
+    }
+
+    /// Whether it is this space.
+    pub fn is_of(&self, identity: &Identity) -> bool
+        ensures { (result ≡ true) ↔ (accounts.identity_of self.now ≡ identity.now) }
+    {
+        self.identity().is_same(*identity)
     }
 
     /// What is kept of the entries.
@@ -463,6 +482,47 @@ impl Kept {
         };
         self.shut();
         Ok(summary)
+    }
+
+    // The same as `close_with` for a keeper of this space: K4 too where it is another.
+    pub(crate) fn close_as(
+        self,
+        identity: &Identity,
+        seats: Vec<Seat>,
+    ) -> Result<Chain, (KeeperError, Kept, Vec<Seat>)>
+        ensures identity { IfOk result (λ chain. accounts.identity_on chain ≡ identity.now) }
+        ensures receipts { IfOk result (λ chain.
+            closing.AreOf (joined chain).entries (closing.receipts_of seats.items)) }
+        ensures sealed { IfOk result (λ chain. segments.IsSealedChain chain) }
+        ensures filled { IfOk result (λ chain. segments.AreSomeFilled chain.segments) }
+        ensures kept { IfErr result (λ back. back.1 ≡ self) }
+        ensures back { IfErr result (λ back. back.2.items ≡ seats.items) }
+        ensures only { IfErr result (λ back. (back.0 ≡ KeeperError.Seats)
+            ⊎ ((back.0 ≡ KeeperError.OutOfMemory) ⊎ (back.0 ≡ KeeperError.NoTrace))) }
+    {
+        if !self.is_of(identity) {
+            return Err((KeeperError::Seats, self, seats));
+        }
+        self.close_with(seats)
+    }
+
+    // The same as `end_with` for a keeper of this space: K4 too where it is another.
+    pub(crate) fn end_as(
+        self,
+        identity: &Identity,
+        seats: Vec<Seat>,
+    ) -> Result<Summary, (KeeperError, Kept, Vec<Seat>)>
+        ensures summary { IfOk result (λ summary.
+            summaries.IsSummaryOf identity.now seats.items summary) }
+        ensures kept { IfErr result (λ back. back.1 ≡ self) }
+        ensures back { IfErr result (λ back. back.2.items ≡ seats.items) }
+        ensures only { IfErr result (λ back. (back.0 ≡ KeeperError.Seats)
+            ⊎ (back.0 ≡ KeeperError.OutOfMemory)) }
+    {
+        if !self.is_of(identity) {
+            return Err((KeeperError::Seats, self, seats));
+        }
+        self.end_with(seats)
     }
 
     /// Ends the space: it closes all its sessions and tells nobody. The trace is gone.

@@ -5,6 +5,7 @@ mod closing;
 mod desk;
 mod error;
 mod held;
+mod identity;
 mod keep;
 mod keeper;
 mod kept;
@@ -19,6 +20,7 @@ mod waking;
 
 pub use error::KeeperError;
 pub use held::{Chores, Dues, Look, Wake};
+pub use identity::Identity;
 pub use keep::Keep;
 pub use keeper::Keeper;
 pub use kept::Kept;

@@ -3,7 +3,7 @@
 ghost use Rattle.std.specs.Prelude.{◌≡◌, ◌≢◌, ◌<◌, ◌^◌, ◌++◌, ◌∷◌, [], List, Some, None, Err, length, reverse, OnOk, OnErr, IfErr, IfSome, MatchOption};
 ghost use Rattle.nob_keeper.specs.declared.keep.Keep.TheVariants as keeps;
 ghost use Rattle.nob_keeper.specs.declared.receipt.Receipt.{Receipt as ReceiptOf};
-ghost use Rattle.nob_keeper.specs.Accounts.{fault_of};
+ghost use Rattle.nob_keeper.specs.Accounts.{fault_of, identity_of};
 ghost use Rattle.nob_keeper.specs.declared.error.KeeperError.{KeeperError as KeeperErrorOf};
 ghost use Rattle.nob_keeper.specs.Seats as seats;
 
@@ -97,7 +97,8 @@ impl Seat {
     /// has them; then nothing has changed.
     pub fn ask(&mut self, kept: &mut Kept, event: &Event, seen: u64) -> Result<(), KeeperError>
         ensures adds { OnOk result (seats.Adds self.old self.new event.now seen) }
-        ensures next { OnOk result (seats.AddsNext self.old self.new event.now seen) }
+        ensures next { OnOk result
+            (seats.AddsNext (identity_of kept.old) self.old self.new event.now seen) }
         ensures entry { OnOk result (seats.AddsTo kept.old kept.new self.old self.new event.now
             seen) }
         // Of a seat that has asked the newest entry stays, and so do those of other seats.

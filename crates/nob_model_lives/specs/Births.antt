@@ -1,10 +1,10 @@
 -- Births: where a life of a space begins. After a list of right entries a space is born where each word of it is a new
 -- space's, but for the numbers that it goes on from.
-use Rattle.std.specs.Prelude.{◌≡◌, ◌≤◌, ◌<◌, ℕ, ◌+◌, true, false, List, [], length, Ok}
+use Rattle.std.specs.Prelude.{◌≡◌, ◌≤◌, ◌<◌, ◌⊎◌, ℕ, ◌+◌, ◌-◌, ◌*◌, true, false, List, [], length, Ok}
 use Rattle.nob_ids.specs.Names.{is_counted}
 use Rattle.nob_ids.specs.declared.limits.Limits.{Limits}
 use Rattle.nob_ids.specs.declared.wire_rep.WireRep.{WireRep}
-use Rattle.nob_model_session.specs.End.{seen}
+use Rattle.nob_model_session.specs.End.{last_item, last_session, seen}
 use Rattle.nob_model_types.specs.declared.event.Event.TheVariants as events
 use Rattle.nob_model_types.specs.declared.answer.Answer.TheVariants as answers
 use Rattle.nob_model_types.specs.declared.entry.Entry.{Entry}
@@ -79,3 +79,26 @@ UnusedLaw = (s n : ℕ) (limits : Limits) (birth : Birth) (L : List Entry) → I
 -- the first object of a life has the index behind the birth's
 abbrev pub FirstLaw : Type 0
 FirstLaw = (s n : ℕ) (limits : Limits) (birth : Birth) (L : List Entry) → IsBorn s n limits birth L → birth.indexes < last_number → right s n limits L events.Export ≡ Ok (answers.Exported (own_ref s (birth.indexes + 1)))
+
+-- so many calls and jobs can have been before: none, or as many as items could come and go in the earlier sessions with some one peer
+abbrev pub CanHaveHad : (s n : ℕ) → Birth → Type 0
+CanHaveHad s n birth = (birth.calls + birth.jobs ≡ 0) ⊎ ((p : ℕ) × (is_peer s n p ≡ true) × (birth.calls + birth.jobs ≤ last_item * (birth.session p - 1)))
+
+-- a birth is that of a new space: no index, call or job was before, and each session has number 1
+pub record IsNewBirth (s n : ℕ) (birth : Birth) : Type 0 where
+  pub indexes : birth.indexes ≡ 0
+  pub calls : birth.calls ≡ 0
+  pub jobs : birth.jobs ≡ 0
+  pub sessions : (p : ℕ) → is_peer s n p ≡ true → birth.session p ≡ 1
+
+-- a birth is that of a later life: no number of it is above its limit, each session was opened anew, and so many calls and jobs can have been before
+pub record IsLaterBirth (s n : ℕ) (birth : Birth) : Type 0 where
+  pub indexes : birth.indexes ≤ last_number
+  pub calls : birth.calls ≤ last_number
+  pub jobs : birth.jobs ≤ last_number
+  pub sessions : (p : ℕ) → is_peer s n p ≡ true → (2 ≤ birth.session p) × (birth.session p ≤ last_session)
+  pub earlier : CanHaveHad s n birth
+
+-- a birth is in range if it is a new space's or a later life's
+abbrev pub IsInRange : (s n : ℕ) → Birth → Type 0
+IsInRange s n birth = IsNewBirth s n birth ⊎ IsLaterBirth s n birth

@@ -1,14 +1,15 @@
 -- What a node leaves.
 use Rattle.std.specs.Prelude.{◌≡◌, List}
+use Rattle.nob_keeper.specs.declared.identity.Identity.{Identity}
 use Rattle.nob_keeper.specs.declared.receipt.Receipt.{Receipt}
 use Rattle.nob_keeper.specs.declared.summary.Record.{Record}
 use Rattle.nob_keeper.specs.declared.summary.Record.TheVariants as records
 use Rattle.nob_keeper.specs.Summaries.{IsRecordOf}
 use Rattle.nob_node_site.specs.declared.config.Config.{Config}
 
--- a record is that of some seats: their receipts are those of its chain, in which each entry is right and all is sealed, or their newest are told of the entries of its summary
+-- a record is that of a space and of some seats: their receipts are those of its chain, in which each entry is right and all is sealed, or their newest are told of the entries of its summary
 abbrev pub IsRecorded : Record → Type 0
-IsRecorded left = (seats : List (List Receipt)) × IsRecordOf seats left
+IsRecorded left = (identity : Identity) × (seats : List (List Receipt)) × IsRecordOf identity seats left
 
 -- a record is of the space that a node was made of, one of as many spaces, with its limits where it says some
 abbrev pub IsOwn : Config → Record → Type 0

@@ -231,7 +231,7 @@ fn is_own(record: &Record, config: &Config) -> bool
 
 // What was kept: a chain of all entries, or what they come to.
 fn record_of(keeper: Keeper, kept: Keep, seats: Vec<Seat>) -> Result<Record, (KeeperError, Keeper)>
-    ensures recorded { IfOk result (λ left. summaries.IsRecordOf seats.items left) }
+    ensures recorded { IfOk result (λ left. summaries.IsRecordOf keeper.identity seats.items left) }
     ensures kept { IfOk result (λ left. summaries.is_chain left ≡ keeps_all kept) }
 {
     match kept {

@@ -4,7 +4,7 @@ use denote.RattleType.{RattleType}
 use denote.Param.Send.{IsSend, IsSync, sendable, recorded_send, recorded_sync, struct_send, struct_sync, view_send}
 use denote.Struct.Declared.{shape}
 use denote.Struct.Struct.{Struct}
-use Rattle.std.proofs.Crossing.{crosses, Vec-send, Vec-sync}
+use Rattle.std.proofs.Crossing.{crosses, Vec-send}
 use Rattle.std.specs.contracts.sync.Condvar as Condvar
 use Rattle.nob_agents.proofs.Crossing.{taker_send, way_send, sender_send}
 use Rattle.nob_agents.specs.contracts.taker.Taker as Taker
@@ -16,9 +16,7 @@ use Rattle.nob_agents.specs.contracts.way.Way as Way
 use Rattle.nob_dispatch.proofs.Crossing.{desk_send, hand_send}
 use Rattle.nob_dispatch.specs.contracts.desk.Desk as Desk
 use Rattle.nob_dispatch.specs.contracts.hand.Hand as Hand
-use Rattle.nob_keeper.proofs.Crossing.{kept_send as account_send, seat_send}
-use Rattle.nob_keeper.specs.contracts.held.Held as Held
-use Rattle.nob_keeper.specs.contracts.keeper.Keeper as Keeper
+use Rattle.nob_keeper.proofs.Crossing.{keeper_field_sync, seat_send}
 use Rattle.nob_link.proofs.ends.PutEnd.TheSendSync as put_end
 use Rattle.nob_link.specs.contracts.ends.PutEnd as PutEnd
 use Rattle.nob_node_parts.proofs.object.Kept.TheSendSync as kept
@@ -39,9 +37,6 @@ outbox_field_send =
     struct_send (shape Outbox.the_type)
     (search (sender, sendable) depth 30, (search (seat_send, sendable) depth 30, (Vec-send (Way.the_row PutEnd.the_row ghosts) ways_send, (search sendable, tt))))
 
-condvar_row_sync : IsSync Condvar.the_row
-condvar_row_sync = search (crosses, sendable) depth 60 fits 20000
-
 condvar_sync : IsSync (Condvar.the_field).row
 condvar_sync = search (crosses, sendable) depth 60 fits 20000
 
@@ -56,18 +51,6 @@ inbox_send =
 
 carer_field_send : IsSend (Carer.the_field).row
 carer_field_send = struct_send (shape Carer.the_type) (seat_send, tt)
-
-held_send : IsSend Held.the_row
-held_send =
-    let T = Held.the_type in
-    recorded_send (Struct (shape T)) T.D T.to T.to_one (struct_send (shape T)
-    (account_send, (search (crosses, sendable) depth 60, tt)))
-
-keeper_field_sync : IsSync (Keeper.the_field).row
-keeper_field_sync = struct_sync (shape Keeper.the_type) (
-  search (crosses, sendable) depth 60,
-  (search sendable depth 30, (search (held_send, crosses, sendable) depth 60, (condvar_sync, (condvar_sync, (condvar_sync, (Vec-sync Condvar.the_row condvar_row_sync, tt)))))),
-)
 
 -- what the threads of a node share and have, where the object may cross
 module _ (B : RattleType) (crossing : IsSend B) where

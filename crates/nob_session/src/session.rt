@@ -15,7 +15,7 @@ ghost use Rattle.nob_frame.specs.Kinds.{is_data};
 ghost use Rattle.nob_frame.specs.declared.version.Version.TheVariants.{Two};
 ghost use Rattle.nob_frame.specs.Spelling.{Fits};
 ghost use Rattle.nob_session.specs.Items.{IsItem, IsPair};
-ghost use Rattle.nob_session.specs.Stands.{KeepsRoom, Stands, closed_end, heard, is_open_end, passed_over, seeing};
+ghost use Rattle.nob_session.specs.Stands.{KeepsRoom, Stands, closed_end, end_of, heard, is_open_end, passed_over, seeing};
 ghost use Rattle.nob_session.specs.Calls.{EndsBy, SameHanded, acceptable, accepting, after_transmit, beginning, evidence_of, frames_of, keeping, next_of, reopening_of, with_item, without_front};
 ghost use Rattle.nob_session.specs.Answers.{Answered, KeepsAnew, arrived_of};
 ghost use Rattle.nob_session.specs.Dues.{due_of, due_up_to};
@@ -93,12 +93,30 @@ impl Session {
     ) -> Result<Session, AllocError>
         ensures { IfOk result (λ session. Stands me peer limits session.end []) }
     {
+        Session::open_at(alloc, me, peer, limits, 1)
+    }
+
+    /// Opens the end of `me` towards `peer` in the session of this number, at which nothing has
+    /// arrived: as `open` does, but that sessions went before. Only memory fails it. The caller's
+    /// condition: the number isn't 0.
+    #[tactic(auto, using(crate::proofs::Kept::none_kept))]
+    pub fn open_at(
+        alloc: Global,
+        me: SpaceId,
+        peer: SpaceId,
+        limits: Limits,
+        number: u32,
+    ) -> Result<Session, AllocError>
+        requires { 1 ≤ number }
+        ensures { IfOk result
+            (λ session. session.end ≡ beginning number (end_of me peer limits [])) }
+    {
         Ok(Session {
             alloc,
             me,
             peer,
             limits,
-            number: 1,
+            number,
             seen: 0,
             unacknowledged: VecDeque::new(alloc),
             handed: 0,

@@ -2,3 +2,4 @@ pub mod Places
 pub mod Acted
 pub mod Owners
 pub mod Coming
+pub mod Beginning

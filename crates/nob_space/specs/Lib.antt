@@ -2,3 +2,4 @@ pub mod Spaces
 pub mod Steps
 pub mod Events
 pub mod Twice
+pub mod Births

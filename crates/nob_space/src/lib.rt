@@ -10,6 +10,6 @@ mod work;
 pub use nob_model::{Backlog, Tally};
 pub use nob_session::Due;
 pub use nob_space_items::{ActResult, SettledItem};
-pub use nob_space_state::{CallResult, ReplyFate, SpaceError};
+pub use nob_space_state::{Birth, BirthError, BirthFault, CallResult, ReplyFate, SpaceError};
 pub use space::Space;
 pub use work::Work;

@@ -1,6 +1,6 @@
 //! A space.
 
-ghost use Rattle.std.specs.Prelude.{◌≡◌, ◌≢◌, ◌≤◌, ◌-◌, ℕ, List, [], true, false, Some, Err, IfOk, OnErr, slice_get};
+ghost use Rattle.std.specs.Prelude.{◌≡◌, ◌≢◌, ◌≤◌, ◌-◌, ℕ, List, [], true, false, Some, Err, IfOk, IfErr, OnErr, slice_get};
 ghost use Rattle.std.specs.List.{AllByRecursion};
 ghost use Rattle.nob_ids.specs.Names.{IsSpace};
 ghost use Rattle.nob_frame.specs.Spelling.{Fits};
@@ -15,8 +15,11 @@ ghost use Rattle.nob_model_history.specs.Listing.{is_listed};
 ghost use Rattle.nob_model.specs.Next as next;
 ghost use Rattle.nob_model.specs.Right.{right};
 ghost use Rattle.nob_model.specs.Tallies as tallies;
+ghost use Rattle.nob_model_lives.specs.Births.{IsBorn, IsInRange};
+ghost use Rattle.nob_space_state.specs.Births.{life_of};
 ghost use Rattle.nob_space_state.specs.Dues as dues;
 ghost use Rattle.nob_space_state.specs.Stands.{AnswersOrWants};
+ghost use Rattle.nob_space.specs.Births.{IsError};
 ghost use Rattle.nob_space.specs.Spaces.{StandsFor, SameSpace, wants_memory};
 ghost use Rattle.nob_space.specs.Steps.{HandsOnFitting, IsOwn};
 ghost use Rattle.nob_space.specs.Events.{StepAnswers, StepStands};
@@ -30,7 +33,7 @@ use nob_ids::{CallNo, Limits, SpaceId};
 use nob_model::{Answer, Backlog, Event, Here, Tally};
 use nob_session::Due;
 use nob_space_items::{can_clean, can_settle};
-use nob_space_state::{Parts, SpaceError};
+use nob_space_state::{Birth, BirthError, Parts, SpaceError};
 use std::alloc::{AllocError, Global};
 use std::marker::Model;
 
@@ -75,6 +78,44 @@ impl Space {
         ensures stands { IfOk result (λ space. StandsFor space []) }
     {
         let parts = Parts::new(alloc, Here { space: id, n }, limits)?;
+        Ok(Space {
+            limits,
+            alloc,
+            parts,
+        })
+    }
+
+    /// A space whose life begins so: a new space, or one that comes back under its number behind
+    /// what it had, and has nothing of its life before. Its sessions with all others are open, each
+    /// in its number; the first object has the index behind `indexes`, the first call and the first
+    /// job the numbers behind `calls` and `jobs`. It stands for every list of entries after which it
+    /// is born so, and for each birth that isn't refused there is one.
+    ///
+    /// A birth is refused that isn't a new space's (`Birth::default()`) nor a later life's, by the
+    /// first of these: `Indexes`, `Calls` or `Jobs` above 2^48; the `Session` with a peer in a number
+    /// below 2; `Earlier` where calls and jobs together are above 2^40 for each of the sessions
+    /// before the present one, whichever the peer. No other birth is, but for want of memory.
+    ///
+    /// The caller's condition: there are 32 spaces at most. Linear in them.
+    pub fn begin_at(
+        alloc: Global,
+        id: SpaceId,
+        n: u16,
+        limits: Limits,
+        birth: &Birth,
+    ) -> Result<Space, BirthError>
+        requires { n ≤ 32 }
+        ensures id { IfOk result (λ space. space.id ≡ id) }
+        ensures n { IfOk result (λ space. space.n ≡ n) }
+        ensures limits { IfOk result (λ space. space.limits ≡ limits) }
+        ensures stands { IfOk result (λ space. (L : List Entry)
+            → IsBorn id n limits (life_of birth.now) L → StandsFor space L) }
+        ensures in_range { IfOk result (λ space. IsInRange id n (life_of birth.now)) }
+        ensures err { IfErr result (λ error. IsError id n (life_of birth.now) error) }
+    {
+        let here = Here { space: id, n };
+        birth.check(&here)?;
+        let parts = Parts::begin_at(alloc, here, limits, birth)?;
         Ok(Space {
             limits,
             alloc,

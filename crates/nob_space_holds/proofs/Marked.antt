@@ -1,5 +1,5 @@
 -- What a table shows doesn't depend on what it keeps from outside, but that each of those references is used there.
-use Rattle.std.proofs.Common.{◌≡◌, ℕ, true, false, [], if◌then◌else◌, None, refl, sym, ap, subst, ◌∙◌, flat_map, List, Bool, ◌==◌}
+use Rattle.std.proofs.Common.{◌≡◌, ℕ, ◌+◌, true, false, [], if◌then◌else◌, None, refl, sym, ap, subst, ◌∙◌, flat_map, List, Bool, ◌==◌}
 use Rattle.nob_ids.specs.declared.wire_rep.WireRep.{WireRep}
 use Rattle.nob_table_rows.specs.declared.standing.Standing.{Standing}
 use Rattle.nob_table_rows.specs.Counts.{is_held}
@@ -17,7 +17,7 @@ use Rattle.nob_model_history.specs.Listing.{is_listed}
 use Rattle.nob_item.specs.Kinds.{counted_in}
 use Rattle.nob_model_history.specs.Transit as transit
 use Rattle.nob_model.specs.Right.{own_ref}
-use Rattle.nob_space_holds.specs.Shows.{TableShows, AreUsed, far_state}
+use Rattle.nob_space_holds.specs.Shows.{TableShows, AreUsed, behind, far_state}
 
 -- the table without a mark
 abbrev pub unmarked : Table → Table
@@ -59,6 +59,7 @@ module _ {s n : ℕ} {t : Table} {h : History} {H L : WireRep → ℕ} where
     far = shows.far;
     hands = shows.hands;
     loans = shows.loans;
+    passed = shows.passed;
     dirties = shows.dirties;
     places = shows.places;
     kept = λ rep kept none. absurd (none_kept t rep kept);
@@ -73,8 +74,9 @@ module _ {s n : ℕ} {t : Table} {h : History} {H L : WireRep → ℕ} where
     far = λ rep counted own. subst (λ (it : Standing). it.state ≡ far_state (closed rep.owner h.deeds) (is_held it.counts) (turns s n rep h.deeds)) (sym (same_standing same rep)) (shows.far rep counted own);
     hands = λ rep counted. ap (λ (it : Standing). it.counts.hand) (same_standing same rep) ∙ shows.hands rep counted;
     loans = λ rep counted. ap (λ (it : Standing). it.counts.lent) (same_standing same rep) ∙ shows.loans rep counted;
-    dirties = same.dirties ∙ shows.dirties;
-    places = λ rep. (λ i. place_in (same.surrogates i) rep) ∙ shows.places rep ∙ ap (λ (it : Standing). if is_surrogate it.state then transit.place rep h else None) (sym (same_standing same rep));
+    passed = shows.passed;
+    dirties = ap (λ k. shows.passed + k) same.dirties ∙ shows.dirties;
+    places = λ rep. (λ i. behind shows.passed (place_in (same.surrogates i) rep)) ∙ shows.places rep ∙ ap (λ (it : Standing). if is_surrogate it.state then transit.place rep h else None) (sym (same_standing same rep));
     kept = kept;
   }
 

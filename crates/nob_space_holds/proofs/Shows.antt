@@ -23,7 +23,7 @@ use Rattle.nob_model_history.specs.declared.history.History.{History}
 use Rattle.nob_model_history.specs.Transit as transit
 use Rattle.nob_model.specs.Right.{own_ref}
 use Rattle.nob_space_holds.specs.Holds.{one_more, one_fewer}
-use Rattle.nob_space_holds.specs.Shows.{far_state, TableShows}
+use Rattle.nob_space_holds.specs.Shows.{far_state, behind, TableShows}
 
 -- whether a standing is what one of another space's objects is, by the session, its own holds and its turns
 abbrev pub IsFar : Bool → Turns → Standing → Type 0
@@ -99,8 +99,9 @@ module _ (s n : ℕ) (h : History) (H L H' L' : WireRep → ℕ) (t u : Table) (
     far = one_row (λ other it. is_counted other ≡ true → is_own s other ≡ false → IsFar (closed other.owner h.deeds) (turns s n other h.deeds) it) rep (standing t) (standing u) after becomes far (λ other differs. shows.far other);
     hands = one_row (λ other it. is_counted other ≡ true → it.counts.hand ≡ H' other) rep (standing t) (standing u) after becomes hand (λ other differs counted. shows.hands other counted ∙ sym (hands other differs));
     loans = one_row (λ other it. is_counted other ≡ true → it.counts.lent ≡ L' other) rep (standing t) (standing u) after becomes lent (λ other differs counted. shows.loans other counted ∙ sym (loans other differs));
-    dirties = leaves.surrogates.dirties ∙ shows.dirties;
-    places = λ other. leaves.surrogates.places other ∙ shows.places other ∙ ap (λ b. if b then transit.place other h else None) (sym (one_row (λ w it. is_surrogate it.state ≡ is_surrogate (standing t w).state) rep (standing t) (standing u) after becomes surrogate (λ w differs. refl) other));
+    passed = shows.passed;
+    dirties = ap (λ k. shows.passed + k) leaves.surrogates.dirties ∙ shows.dirties;
+    places = λ other. ap (behind shows.passed) (leaves.surrogates.places other) ∙ shows.places other ∙ ap (λ b. if b then transit.place other h else None) (sym (one_row (λ w it. is_surrogate it.state ≡ is_surrogate (standing t w).state) rep (standing t) (standing u) after becomes surrogate (λ w differs. refl) other));
     kept = λ rep kept none. shows.kept rep (sym (leaves.objects.kept rep) ∙ kept) none;
   }
 

@@ -107,6 +107,7 @@ shows_same {s} {n} {t} {h} {H} {L} H' L' hands lents shows = record {
   far = shows.far;
   hands = λ rep counted. shows.hands rep counted ∙ hands rep;
   loans = λ rep counted. shows.loans rep counted ∙ lents rep;
+  passed = shows.passed;
   dirties = shows.dirties;
   places = shows.places;
   kept = shows.kept;

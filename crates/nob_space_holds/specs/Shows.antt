@@ -1,5 +1,5 @@
 -- What a table shows of the history of its space: the objects, the surrogates and the holds.
-use Rattle.std.specs.Prelude.{◌≡◌, ℕ, Bool, true, false, List, length, None, if◌then◌else◌}
+use Rattle.std.specs.Prelude.{◌≡◌, ℕ, ◌+◌, Bool, true, false, List, length, Option, None, option_map, if◌then◌else◌}
 use Rattle.nob_ids.specs.Names.{is_counted}
 use Rattle.nob_ids.specs.declared.wire_rep.WireRep.{WireRep}
 use Rattle.nob_table_rows.specs.declared.standing.State.{State as TableState}
@@ -31,6 +31,10 @@ IsListed s rep D = (rep.owner ≡ s) × (client : ℕ) × (is_listed s rep.index
 abbrev pub AreUsed : (s : ℕ) → Table → History → Type 0
 AreUsed s t h = (rep : WireRep) → is_kept t rep ≡ true → transit.pins rep h ≡ 0 → IsListed s rep h.deeds
 
+-- a place, if there is one, as it is counted from the first Dirty where so many were sent before the table began
+abbrev pub behind : (passed : ℕ) → Option ℕ → Option ℕ
+behind passed found = option_map (λ place. passed + place) found
+
 -- the table has the objects and the surrogates of a history, in the order of their Dirties, and these holds: so many in the hand and so many lent
 pub record TableShows (s n : ℕ) (t : Table) (h : History) (hand_of on_loan : WireRep → ℕ) : Type 0 where
   pub me : t.me ≡ s
@@ -40,8 +44,12 @@ pub record TableShows (s n : ℕ) (t : Table) (h : History) (hand_of on_loan : W
   pub far : (rep : WireRep) → is_counted rep ≡ true → is_own s rep ≡ false → (standing t rep).state ≡ far_state (closed rep.owner h.deeds) (is_held (standing t rep).counts) (turns s n rep h.deeds)
   pub hands : (rep : WireRep) → is_counted rep ≡ true → (standing t rep).counts.hand ≡ hand_of rep
   pub loans : (rep : WireRep) → is_counted rep ≡ true → (standing t rep).counts.lent ≡ on_loan rep
-  pub dirties : t.dirties ≡ length (transit.dirties h)
-  pub places : (rep : WireRep) → place_of t rep ≡ (if standings.is_surrogate (standing t rep).state then transit.place rep h else None)
+  -- so many Dirties were sent before the table began
+  pub passed : ℕ
+  -- all that were sent are these and the table's
+  pub dirties : passed + t.dirties ≡ length (transit.dirties h)
+  -- a surrogate's place is that of its last Dirty, behind those that were sent before
+  pub places : (rep : WireRep) → behind passed (place_of t rep) ≡ (if standings.is_surrogate (standing t rep).state then transit.place rep h else None)
   pub kept : AreUsed s t h
 
 -- the table stands for a history: its holds are those of the history

@@ -31,7 +31,7 @@ use Rattle.nob_model_history.specs.Transit.{dirties, last_place}
 use Rattle.nob_model_history.proofs.Dirtying.{place_push, same_flip}
 use Rattle.nob_model.specs.Right.{own_ref}
 use Rattle.nob_space_state.specs.Parts.{State}
-use Rattle.nob_space_holds.specs.Shows.{TableShows, far_state}
+use Rattle.nob_space_holds.specs.Shows.{TableShows, behind, far_state}
 use Rattle.nob_space_state.specs.Stands.{Stands}
 use Rattle.nob_space_items.specs.Asking.{AsksFor, place_after}
 use Rattle.nob_space_items.specs.Fronts.{IsFront}
@@ -78,6 +78,14 @@ place_kept n [] rep before none = refl
 place_kept n (first ∷ reps) rep before none =
     let parts = or_parts (is_same rep first) (list_any (is_same rep) reps) none in
     rw (same_flip first rep ∙ parts.0) (place_kept (n + 1) reps rep before parts.1)
+
+-- the places after Dirties are counted from the first Dirty as those before them are
+place_behind : (passed n : ℕ) (reps : List WireRep) (rep : WireRep) (before : Option ℕ) → behind passed (place_after n reps rep before) ≡ place_after (passed + n) reps rep (behind passed before)
+place_behind passed n [] rep before = refl
+place_behind passed n (first ∷ reps) rep before =
+    place_behind passed (n + 1) reps rep (if is_same first rep then Some n else before)
+    ∙ (let more : passed + (n + 1) ≡ passed + n + 1 = omega arith in ap (λ m. place_after m reps rep (behind passed (if is_same first rep then Some n else before))) more)
+    ∙ ap (place_after (passed + n + 1) reps rep) (elim (is_same first rep) as (λ b. behind passed (if b then Some n else before) ≡ (if b then Some (passed + n) else behind passed before)) [ true ↦ refl | false ↦ refl ])
 
 module _ {s n : ℕ} {limits : Limits} {st : State} {D : List Deed} (stands : Stands s n limits st D) (p k : ℕ) (item : Item) (front : IsFront s n p k item D) (message : IsMessage item) where
   -- those that get Dirties are counted and peers'
@@ -144,17 +152,22 @@ module _ {s n : ℕ} {limits : Limits} {st : State} {D : List Deed} (stands : St
           | true ↦ λ there. ap (λ (it : Standing). it.counts.lent) (asks.standings rep ∙ ap (λ b. if b then pending_standing else standing st.table rep) there) ∙ sym (ap (λ (c : Counts). c.lent) (wanted_free rep there)) ∙ shows.loans rep counted
           | false ↦ λ none. ap (λ (it : Standing). it.counts.lent) (asks.standings rep ∙ ap (λ b. if b then pending_standing else standing st.table rep) none) ∙ shows.loans rep counted
         ] refl;
-        dirties = asks.dirties ∙ ap (λ m. m + length reps) shows.dirties ∙ sym (ap length (act_dirties stands p k item front message) ∙ length-append (dirties (history_of s n D)) reps);
+        passed = shows.passed;
+        dirties =
+            let more : shows.passed + (st.table.dirties + length reps) ≡ (shows.passed + st.table.dirties) + length reps = omega arith in
+            ap (λ m. shows.passed + m) asks.dirties ∙ more ∙ ap (λ m. m + length reps) shows.dirties ∙ sym (ap length (act_dirties stands p k item front message) ∙ length-append (dirties (history_of s n D)) reps);
         places = λ rep.
             let ds : List WireRep = dirties (history_of s n D) in
-            let later : last_place rep (dirties (history_of s n (Act p k ∷ D))) ≡ place_after st.table.dirties reps rep (last_place rep ds) = ap (last_place rep) (act_dirties stands p k item front message) ∙ place_append reps ds rep ∙ ap (λ m. place_after m reps rep (last_place rep ds)) (sym shows.dirties) in
-            elim (is_among rep) as (λ b. is_among rep ≡ b → place_of mid rep ≡ (if is_surrogate (standing mid rep).state then last_place rep (dirties (history_of s n (Act p k ∷ D))) else None)) [
+            let later : last_place rep (dirties (history_of s n (Act p k ∷ D))) ≡ place_after (shows.passed + st.table.dirties) reps rep (last_place rep ds) = ap (last_place rep) (act_dirties stands p k item front message) ∙ place_append reps ds rep ∙ ap (λ m. place_after m reps rep (last_place rep ds)) (sym shows.dirties) in
+            elim (is_among rep) as (λ b. is_among rep ≡ b → behind shows.passed (place_of mid rep) ≡ (if is_surrogate (standing mid rep).state then last_place rep (dirties (history_of s n (Act p k ∷ D))) else None)) [
               | true ↦ λ there.
-                  asks.places rep ∙ place_among st.table.dirties reps rep (place_of st.table rep) (last_place rep ds) there ∙ sym later
+                  ap (behind shows.passed) (asks.places rep) ∙ place_behind shows.passed st.table.dirties reps rep (place_of st.table rep)
+                  ∙ place_among (shows.passed + st.table.dirties) reps rep (behind shows.passed (place_of st.table rep)) (last_place rep ds) there ∙ sym later
                   ∙ sym (ap (λ (it : Standing). if is_surrogate it.state then last_place rep (dirties (history_of s n (Act p k ∷ D))) else None) (asks.standings rep ∙ ap (λ b. if b then pending_standing else standing st.table rep) there))
               | false ↦ λ none.
-                  asks.places rep ∙ place_kept st.table.dirties reps rep (place_of st.table rep) none ∙ shows.places rep
-                  ∙ ap (λ found. if is_surrogate (standing st.table rep).state then found else None) (sym (later ∙ place_kept st.table.dirties reps rep (last_place rep ds) none))
+                  ap (behind shows.passed) (asks.places rep) ∙ place_behind shows.passed st.table.dirties reps rep (place_of st.table rep)
+                  ∙ place_kept (shows.passed + st.table.dirties) reps rep (behind shows.passed (place_of st.table rep)) none ∙ shows.places rep
+                  ∙ ap (λ found. if is_surrogate (standing st.table rep).state then found else None) (sym (later ∙ place_kept (shows.passed + st.table.dirties) reps rep (last_place rep ds) none))
                   ∙ sym (ap (λ (it : Standing). if is_surrogate it.state then last_place rep (dirties (history_of s n (Act p k ∷ D))) else None) (asks.standings rep ∙ ap (λ b. if b then pending_standing else standing st.table rep) none))
             ] refl;
         kept = used_still s st.table mid (history_of s n D) (history_of s n (Act p k ∷ D)) asks.objects.kept (act_bundles stands p k item front message) (act_listed stands p k item front message) shows.kept;

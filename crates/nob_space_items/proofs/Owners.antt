@@ -1,5 +1,5 @@
 -- Acting on what an owner answered to a Dirty: what it leaves.
-use Rattle.std.proofs.Common.{◌≡◌, ℕ, ◌-◌, Bool, true, false, not, ◌&&◌, ◌||◌, ◌==◌, List, [], ◌∷◌, length, map, get_or, Some, None, if◌then◌else◌, refl, sym, ap, subst, ◌∙◌}
+use Rattle.std.proofs.Common.{◌≡◌, ℕ, ◌+◌, ◌-◌, Bool, true, false, not, ◌&&◌, ◌||◌, ◌==◌, List, [], ◌∷◌, length, map, get_or, Some, None, if◌then◌else◌, refl, sym, ap, subst, ◌∙◌}
 use lib.ListN.{set}
 use Rattle.std.specs.List.{sum_by}
 use Rattle.std.proofs.lemmas.Cmp.{nat_eq_equiv}
@@ -44,7 +44,7 @@ use Rattle.nob_model_acting.specs.Acting.{act_refusal, fault_of}
 use Rattle.nob_model.specs.Right.{own_ref}
 use Rattle.nob_model.proofs.Made.{loans_made}
 use Rattle.nob_space_state.specs.Parts.{State}
-use Rattle.nob_space_holds.specs.Shows.{TableShows, far_state}
+use Rattle.nob_space_holds.specs.Shows.{TableShows, behind, far_state}
 use Rattle.nob_space_waiting.specs.Waiting.{is_awaited}
 use Rattle.nob_space_state.specs.Stands.{Stands, AreAwaited, bundle}
 use Rattle.nob_space_state.proofs.Awaited.{same_lost}
@@ -171,8 +171,9 @@ module _ {s n p k : ℕ} {limits : Limits} {st : State} {D : List Deed} (stands 
             (λ other differs counted away. stands.table.far other counted away ∙ ap (far_state (closed other.owner D) (is_held (standing st.table other).counts)) (sym (turned granted index front there other ∙ ap (λ b. if b then with_answer (said_by granted) (turns s n other D) else turns s n other D) differs)));
         hands = one_row (λ other it. is_counted other ≡ true → it.counts.hand ≡ hand other D) (own_ref p index) (standing st.table) (standing u) after becomes (stands.table.hands (own_ref p index)) (λ other differs. stands.table.hands other);
         loans = one_row (λ other it. is_counted other ≡ true → it.counts.lent ≡ times other (lent_in s (work s n D))) (own_ref p index) (standing st.table) (standing u) after becomes (stands.table.loans (own_ref p index)) (λ other differs. stands.table.loans other);
-        dirties = leaves.surrogates.dirties ∙ stands.table.dirties ∙ ap length (sym dirties);
-        places = λ other. leaves.surrogates.places other ∙ stands.table.places other
+        passed = stands.table.passed;
+        dirties = ap (λ k. stands.table.passed + k) leaves.surrogates.dirties ∙ stands.table.dirties ∙ ap length (sym dirties);
+        places = λ other. ap (behind stands.table.passed) (leaves.surrogates.places other) ∙ stands.table.places other
             ∙ ap (λ b. if b then transit.place other (history_of s n D) else None) (sym (one_row (λ w it. standings.is_surrogate it.state ≡ standings.is_surrogate (standing st.table w).state) (own_ref p index) (standing st.table) (standing u) after becomes (is.1 ∙ sym was.1) (λ w differs. refl) other))
             ∙ ap (λ reps. if standings.is_surrogate (standing u other).state then transit.last_place other reps else None) (sym dirties);
         kept = used_still s st.table u (history_of s n D) (history_of s n (Act p k ∷ D)) leaves.objects.kept (bundles_stay s n p k (answer_note granted index) D there settles none) (answer_listed granted index front there) stands.table.kept;

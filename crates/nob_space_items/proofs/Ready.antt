@@ -248,7 +248,7 @@ module _ {s n : ℕ} {limits : Limits} {st : State} {D : List Deed} (stands : St
       let parts = free_parts st all free in
       let few : nat_lt 65536 (surrogate_total st.table + length all) ≡ false = (or_parts _ _ parts.0).1 in
       let total : surrogate_total st1.table ≡ surrogate_total st.table = ap length grows.table.items.surrogates in
-      let sent : st1.table.dirties ≡ length (dirties (history_of s n D)) = grows.table.items.dirties ∙ stands.table.dirties in
+      let sent : stands.table.passed + st1.table.dirties ≡ length (dirties (history_of s n D)) = ap (λ m. stands.table.passed + m) grows.table.items.dirties ∙ stands.table.dirties in
       let low : length (dirties (history_of s n D)) ≤ n * 4722366482869645213696 = dirties_low stands in
       let fits : surrogate_total st.table + length all ≤ 65536 = grind (arith, nat_tests, few) in
       let me : st1.table.me ≡ s = grows.table.items.me ∙ stands.table.me in

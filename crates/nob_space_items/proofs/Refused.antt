@@ -168,7 +168,7 @@ module _ {s n : ℕ} {limits : Limits} {st : State} {D : List Deed} (stands : St
       ∙ elim (list_any (is_same rep) ds) as (λ c. list_any (is_same rep) ds ≡ c → b ≡ (has_surrogate s n D rep && c)) [
         | true ↦ λ there. surrogate_at rep (any_of (CanBeAsked s n) rep ds (dirties_asked s n D) there) ∙ elim (has_surrogate s n D rep) as (λ c. c ≡ (c && true)) [ true ↦ refl | false ↦ refl ]
         | false ↦ λ none.
-            sym (placed rep) ∙ ap is_some (stands.table.places rep ∙ no_place b (last_place rep ds) (none_placed rep ds none))
+            sym (placed rep) ∙ sym (some_mapped (λ place. stands.table.passed + place) (place_of st.table rep)) ∙ ap is_some (stands.table.places rep ∙ no_place b (last_place rep ds) (none_placed rep ds none))
             ∙ elim (has_surrogate s n D rep) as (λ c. false ≡ (c && false)) [ true ↦ refl | false ↦ refl ]
       ] refl
       ∙ sym (any-filter_same (is_same rep) (has_surrogate s n D) (has_surrogate s n D rep) (λ k same. ap (has_surrogate s n D) (sym (same_is rep k same))) (once_last ds) ∙ ap (λ c. has_surrogate s n D rep && c) (any_last rep ds))

@@ -170,6 +170,7 @@ module _ (s n p k : ℕ) (item : Item) (D : List Deed) (there : item_at p k D �
       far = λ rep counted own. shows.far rep counted own ∙ ap (λ w. far_state (closed rep.owner D) (is_held (standing t rep).counts) w) (sym (same_turns rep));
       hands = shows.hands;
       loans = λ rep counted. shows.loans rep counted ∙ ap (λ W. times rep (lent_in s W)) (sym note_work);
+      passed = shows.passed;
       dirties = shows.dirties ∙ ap length (sym note_dirties);
       places = λ rep. shows.places rep ∙ ap (λ reps. if standings.is_surrogate (standing t rep).state then transit.last_place rep reps else None) (sym note_dirties);
       kept = kept;

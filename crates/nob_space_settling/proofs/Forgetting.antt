@@ -44,7 +44,7 @@ use Rattle.nob_space_settling.proofs.Fixing.{still_fixed}
 use Rattle.nob_model.specs.Lists.{IsRightDeed}
 use Rattle.nob_model.specs.Right.{right_after, right_clean, clean_of, own_ref}
 use Rattle.nob_space_state.specs.Parts.{State}
-use Rattle.nob_space_holds.specs.Shows.{TableStands, far_state}
+use Rattle.nob_space_holds.specs.Shows.{TableStands, behind, far_state}
 use Rattle.nob_space_state.specs.Stands.{Stands}
 use Rattle.nob_space_state.proofs.Awaited.{still_awaited}
 use Rattle.nob_space_state.proofs.Ends.{end_there}
@@ -161,16 +161,17 @@ module _ {s n : ℕ} {limits : Limits} {st : State} {D : List Deed} (stands : St
       loans = one_row (λ other it. is_counted other ≡ true → it.counts.lent ≡ times other (lent_in s (work s n (Clean rep ∷ D)))) rep (standing st.table) (standing u) unknown becomes
           (λ counted. ap (λ (c : Counts). c.lent) (sym idle_row.0) ∙ stands.table.loans rep counted ∙ ap (λ W. times rep (lent_in s W)) (sym clean_work))
           (λ other differs counted. stands.table.loans other counted ∙ ap (λ W. times other (lent_in s W)) (sym clean_work));
-      dirties = leaves.dirties ∙ stands.table.dirties ∙ ap length (sym (same_dirties clean_notes));
-      places = λ other. elim (is_same rep other) as (λ b. is_same rep other ≡ b → place_of u other ≡ (if standings.is_surrogate (standing u other).state then transit.place other (history_of s n (Clean rep ∷ D)) else None)) [
+      passed = stands.table.passed;
+      dirties = ap (λ k. stands.table.passed + k) leaves.dirties ∙ stands.table.dirties ∙ ap length (sym (same_dirties clean_notes));
+      places = λ other. elim (is_same rep other) as (λ b. is_same rep other ≡ b → behind stands.table.passed (place_of u other) ≡ (if standings.is_surrogate (standing u other).state then transit.place other (history_of s n (Clean rep ∷ D)) else None)) [
         | true ↦ λ same.
             let gone : place_of u other ≡ None = places other ∙ rw same refl in
             let row : standing u other ≡ unknown = becomes other ∙ rw same refl in
-            gone ∙ sym (ap (λ (it : Standing). if standings.is_surrogate it.state then transit.place other (history_of s n (Clean rep ∷ D)) else None) row)
+            ap (behind stands.table.passed) gone ∙ sym (ap (λ (it : Standing). if standings.is_surrogate it.state then transit.place other (history_of s n (Clean rep ∷ D)) else None) row)
         | false ↦ λ differs.
             let kept : place_of u other ≡ place_of st.table other = places other ∙ rw differs refl in
             let row : standing u other ≡ standing st.table other = becomes other ∙ rw differs refl in
-            kept ∙ stands.table.places other
+            ap (behind stands.table.passed) kept ∙ stands.table.places other
             ∙ ap (λ (it : Standing). if standings.is_surrogate it.state then transit.place other (history_of s n D) else None) (sym row)
             ∙ ap (λ reps. if standings.is_surrogate (standing u other).state then transit.last_place other reps else None) (sym (same_dirties clean_notes))
       ] refl;

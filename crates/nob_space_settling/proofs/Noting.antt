@@ -131,6 +131,7 @@ module _ {s n p : ℕ} {items : List Item} {deed : Deed} {D : List Deed} (notes 
         ∙ ap (λ w. far_state (closed rep.owner (deed ∷ D)) (is_held (standing t rep).counts) w) (sym (same_turns rep));
     hands = λ rep counted. shows.hands rep counted ∙ hand_is rep counted;
     loans = λ rep counted. shows.loans rep counted ∙ on_loan rep counted;
+    passed = shows.passed;
     dirties = shows.dirties ∙ ap length (sym same_dirties);
     places = λ rep. shows.places rep ∙ ap (λ reps. if standings.is_surrogate (standing t rep).state then transit.last_place rep reps else None) (sym same_dirties);
     kept = used_still s t t (history_of s n D) (history_of s n (deed ∷ D)) (λ rep. refl) same_bundles notes.listed shows.kept;

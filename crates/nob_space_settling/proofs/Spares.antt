@@ -33,7 +33,7 @@ use Rattle.nob_model_history.proofs.Unasked.{dirties_same}
 use Rattle.nob_model.proofs.Carrying.{all_filter}
 use Rattle.nob_model.proofs.Waiting.{all_weaker}
 use Rattle.nob_space_state.specs.Parts.{State}
-use Rattle.nob_space_holds.specs.Shows.{far_state}
+use Rattle.nob_space_holds.specs.Shows.{behind, far_state}
 use Rattle.nob_space_state.specs.Stands.{Stands}
 use Rattle.nob_space_state.proofs.Told.{held_there}
 use Rattle.nob_space_state.proofs.Pinned.{pins_there}
@@ -252,15 +252,15 @@ granted_far false held t = elim (is_pending t) as (λ p. is_pending t ≡ p → 
     not_both t pending granted = both_ways (is_granted t) (waiting_stands t (pending_waits t pending)).1 granted
 
 module _ {s n : ℕ} {limits : Limits} {st : State} {D : List Deed} (stands : Stands s n limits st D) where
-  -- a place in the table is that of the last Dirty
-  place_there : (rep : WireRep) (place : ℕ) → place_of st.table rep ≡ Some place → last_place rep (dirties (history_of s n D)) ≡ Some place
-  place_there rep place at = elim (standings.is_surrogate (standing st.table rep).state) as (λ b. (if b then last_place rep (dirties (history_of s n D)) else None) ≡ Some place → last_place rep (dirties (history_of s n D)) ≡ Some place) [
+  -- a place in the table is that of the last Dirty, behind those that were sent before the table began
+  place_there : (rep : WireRep) (place : ℕ) → place_of st.table rep ≡ Some place → last_place rep (dirties (history_of s n D)) ≡ Some (stands.table.passed + place)
+  place_there rep place at = elim (standings.is_surrogate (standing st.table rep).state) as (λ b. (if b then last_place rep (dirties (history_of s n D)) else None) ≡ Some (stands.table.passed + place) → last_place rep (dirties (history_of s n D)) ≡ Some (stands.table.passed + place)) [
     | true ↦ λ e. e
-    | false ↦ λ e. absurd (none-some place e)
-  ] (sym (stands.table.places rep) ∙ at)
+    | false ↦ λ e. absurd (none-some (stands.table.passed + place) e)
+  ] (sym (stands.table.places rep) ∙ ap (behind stands.table.passed) at)
 
   pub apart_there : ArePlacedApart st.table
-  apart_there rep other place here there = last_apart rep other place (dirties (history_of s n D)) (place_there rep place here) (place_there other place there)
+  apart_there rep other place here there = last_apart rep other (stands.table.passed + place) (dirties (history_of s n D)) (place_there rep place here) (place_there other place there)
 
   -- a reference of a peer is granted in the table exactly where it is usable
   pub usable_there : (rep : WireRep) → is_counted rep ≡ true → is_own s rep ≡ false → standings.is_granted (standing st.table rep).state ≡ is_usable s n rep D
@@ -280,12 +280,19 @@ module _ {s n : ℕ} {limits : Limits} {st : State} {D : List Deed} (stands : St
       if_both true held free = refl
       if_both false held free = refl
 
-  -- it is a surrogate, and its last Dirty has its place in the table
-  idle_placed : (rep : WireRep) (place : ℕ) → is_counted rep ≡ true → is_peer s n rep.owner ≡ true → last_place rep (dirties (history_of s n D)) ≡ Some place → is_idle s n (history_of s n D) rep ≡ true → place_of st.table rep ≡ Some place
+  -- it is a surrogate, and its last Dirty has its place in the table, which is so many before
+  idle_placed : (rep : WireRep) (place : ℕ) → is_counted rep ≡ true → is_peer s n rep.owner ≡ true → last_place rep (dirties (history_of s n D)) ≡ Some place → is_idle s n (history_of s n D) rep ≡ true → (at : ℕ) × (place_of st.table rep ≡ Some at) × (stands.table.passed + at ≡ place)
   idle_placed rep place counted peer at idle =
       let usable : is_usable s n rep D ≡ true = (and_parts _ _ (and_parts _ _ idle).0).0 in
-      stands.table.places rep ∙ rw (granted_surrogate (standing st.table rep).state (usable_there rep counted (peer_far rep peer) ∙ usable)) at
+      before (place_of st.table rep) (stands.table.places rep ∙ rw (granted_surrogate (standing st.table rep).state (usable_there rep counted (peer_far rep peer) ∙ usable)) at)
     where
+      some_same : (x y : ℕ) → Some x ≡ Some y → x ≡ y
+      some_same x y e = cc
+
+      before : (found : Option ℕ) → behind stands.table.passed found ≡ Some place → (at : ℕ) × (found ≡ Some at) × (stands.table.passed + at ≡ place)
+      before (Some at) e = (at, refl, some_same (stands.table.passed + at) place e)
+      before None e = absurd (none-some place e)
+
       granted_surrogate : (state : TableState) → standings.is_granted state ≡ true → standings.is_surrogate state ≡ true
       granted_surrogate states.Granted e = refl
       granted_surrogate (_) e = absurd (let bad : false ≡ true = e in cc)
@@ -295,7 +302,7 @@ module _ {s n : ℕ} {limits : Limits} {st : State} {D : List Deed} (stands : St
 
   -- what has a place in the table was asked for
   placed_among : (rep : WireRep) (place : ℕ) → place_of st.table rep ≡ Some place → list_any (is_same rep) (by_last_dirty (history_of s n D)) ≡ true
-  placed_among rep place at = last_stands rep (dirties (history_of s n D)) (placed_stands rep place (dirties (history_of s n D)) (place_there rep place at))
+  placed_among rep place at = last_stands rep (dirties (history_of s n D)) (placed_stands rep (stands.table.passed + place) (dirties (history_of s n D)) (place_there rep place at))
 
   -- and can be asked for
   placed_asked : (rep : WireRep) (place : ℕ) → place_of st.table rep ≡ Some place → CanBeAsked s n rep
@@ -327,15 +334,18 @@ module _ {s n : ℕ} {limits : Limits} {st : State} {D : List Deed} (stands : St
   -- the first of the table is the first of the list
   pub first_there : (rep : WireRep) → IsFirstSpare st rep → first_idle s n (history_of s n D) ≡ Some rep
   first_there rep first =
-      let at : last_place rep (dirties (history_of s n D)) ≡ Some first.0 = place_there rep first.0 first.1 in
+      let at : last_place rep (dirties (history_of s n D)) ≡ Some (stands.table.passed + first.0) = place_there rep first.0 first.1 in
       let among : list_any (is_same rep) (by_last_dirty (history_of s n D)) ≡ true = placed_among rep first.0 first.1 in
       first_found (is_idle s n (history_of s n D)) (dirties (history_of s n D)) rep (by_last_dirty (history_of s n D)) (places_rise s n D) among
       (idle_there rep first)
       (all_weaker (CanBeAsked s n) (λ other. IsBefore (last_place other (dirties (history_of s n D))) (last_place rep (dirties (history_of s n D))) → is_idle s n (history_of s n D) other ≡ false)
       (λ other can before. elim (is_idle s n (history_of s n D) other) as (λ b. is_idle s n (history_of s n D) other ≡ b → b ≡ false) [
         | true ↦ λ idle.
-            let below = before_place (last_place other (dirties (history_of s n D))) first.0 (subst (IsBefore (last_place other (dirties (history_of s n D)))) at before) in
-            absurd (both_ways (is_spare st other) (first.3 other below.0 (idle_placed other below.0 can.0 can.1 below.1 idle) below.2) (spare_there other can.0 can.1 ∙ idle))
+            let below = before_place (last_place other (dirties (history_of s n D))) (stands.table.passed + first.0) (subst (IsBefore (last_place other (dirties (history_of s n D)))) at before) in
+            let placed = idle_placed other below.0 can.0 can.1 below.1 idle in
+            let less = below.2 in
+            let same = placed.2 in
+            absurd (both_ways (is_spare st other) (first.3 other placed.0 placed.1 (omega (arith, less, same))) (spare_there other can.0 can.1 ∙ idle))
         | false ↦ λ _. refl
       ] refl)
       (by_last_dirty (history_of s n D)) by_order)
@@ -352,7 +362,11 @@ module _ {s n : ℕ} {limits : Limits} {st : State} {D : List Deed} (stands : St
       (λ other has. elim (is_idle s n (history_of s n D) other) as (λ b. is_idle s n (history_of s n D) other ≡ b → b ≡ false) [
         | true ↦ λ idle.
             let at = below (last_place other (dirties (history_of s n D))) has.1 in
-            absurd (both_ways (is_spare st other) (none other at.0 (idle_placed other at.0 has.0.0 has.0.1 at.1 idle) (subst (λ k. at.0 < k) (sym stands.table.dirties) at.2)) (spare_there other has.0.0 has.0.1 ∙ idle))
+            let placed = idle_placed other at.0 has.0.0 has.0.1 at.1 idle in
+            let less = at.2 in
+            let same = placed.2 in
+            let all = stands.table.dirties in
+            absurd (both_ways (is_spare st other) (none other placed.0 placed.1 (omega (arith, less, same, all))) (spare_there other has.0.0 has.0.1 ∙ idle))
         | false ↦ λ _. refl
       ] refl)
       (by_last_dirty (history_of s n D)) (both_all (CanBeAsked s n) (λ other. IsPlacedBelow (length (dirties (history_of s n D))) (last_place other (dirties (history_of s n D)))) (by_last_dirty (history_of s n D)) by_order (all_last (λ other. IsPlacedBelow (length (dirties (history_of s n D))) (last_place other (dirties (history_of s n D)))) (dirties (history_of s n D)) (all_below (dirties (history_of s n D))))))

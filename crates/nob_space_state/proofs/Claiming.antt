@@ -164,6 +164,7 @@ module _ (s n : ℕ) (D : List Deed) (m : Message) (job : Job) (j : ℕ) (found 
           far = stands.table.far;
           hands = stands.table.hands;
           loans = λ rep counted. stands.table.loans rep counted ∙ claim_lends s job.job rep (work s n D) m found ∙ ap (λ w. times rep (lent_in s w)) (sym after);
+          passed = stands.table.passed;
           dirties = stands.table.dirties;
           places = stands.table.places;
           kept = stands.table.kept;

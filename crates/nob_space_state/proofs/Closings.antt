@@ -61,7 +61,7 @@ use Rattle.nob_space_state.specs.Closing.{lent_in_vain, LosesOwner, TableLoses, 
 use Rattle.nob_space_state.specs.Looks.{has_closed, HaveUsers}
 use Rattle.nob_space_state.specs.Parts.{State, with_sessions}
 use Rattle.nob_space_holds.specs.Returns.{HasLent}
-use Rattle.nob_space_holds.specs.Shows.{TableShows, TableStands, AreUsed, far_state}
+use Rattle.nob_space_holds.specs.Shows.{TableShows, TableStands, AreUsed, behind, far_state}
 use Rattle.nob_space_state.specs.Stands.{Stands, EndsStand, PinsStand, AreAwaited, bundle}
 use Rattle.nob_space_state.proofs.Awaited.{closing_awaited}
 use Rattle.nob_space_state.proofs.Claiming.{times_lent}
@@ -162,10 +162,11 @@ lost_shows s n p reason cause D H L t u peer shows loses kept =
       ] refl;
       hands = λ rep counted. ap (λ (c : Counts). c.hand) (counts_kept t u p loses rep not_me) ∙ shows.hands rep counted;
       loans = λ rep counted. ap (λ (c : Counts). c.lent) (counts_kept t u p loses rep not_me) ∙ shows.loans rep counted;
-      dirties = loses.dirties ∙ shows.dirties;
-      places = λ rep. elim (rep.owner == p) as (λ b. rep.owner == p ≡ b → place_of u rep ≡ (if is_surrogate (standing u rep).state then transit.place rep (history_of s n D) else None)) [
-        | true ↦ λ its. loses.places rep ∙ rw (its, row_lost t u p loses rep its not_me, lost_no_surrogate (standing t rep)) refl
-        | false ↦ λ differs. loses.places rep ∙ rw (differs, row_kept t u p loses rep differs) (shows.places rep)
+      passed = shows.passed;
+      dirties = ap (λ k. shows.passed + k) loses.dirties ∙ shows.dirties;
+      places = λ rep. elim (rep.owner == p) as (λ b. rep.owner == p ≡ b → behind shows.passed (place_of u rep) ≡ (if is_surrogate (standing u rep).state then transit.place rep (history_of s n D) else None)) [
+        | true ↦ λ its. ap (behind shows.passed) (loses.places rep) ∙ rw (its, row_lost t u p loses rep its not_me, lost_no_surrogate (standing t rep)) refl
+        | false ↦ λ differs. ap (behind shows.passed) (loses.places rep) ∙ rw (differs, row_kept t u p loses rep differs) (shows.places rep)
       ] refl;
       kept = kept;
     }

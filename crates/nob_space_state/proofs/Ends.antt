@@ -176,6 +176,7 @@ module _ {s n : ℕ} {limits : Limits} {st : State} {deed : Deed} {D : List Deed
               ∙ ap (λ w. far_state (closed rep.owner (deed ∷ D)) (is_held (standing st.table rep).counts) w) (sym (still.turns rep));
           hands = λ rep counted. stands.table.hands rep counted ∙ sym (λ i. times rep (still.gains i) - times rep (still.releases i));
           loans = λ rep counted. stands.table.loans rep counted ∙ ap (λ w. times rep (lent_in s w)) (sym still.work);
+          passed = stands.table.passed;
           dirties = stands.table.dirties ∙ ap length (sym still.dirties);
           places = λ rep. stands.table.places rep ∙ ap (λ reps. if standings.is_surrogate (standing st.table rep).state then transit.last_place rep reps else None) (sym still.dirties);
           kept = used_still s st.table st.table (history_of s n D) (history_of s n (deed ∷ D)) (λ rep. refl) still.bundles still.listed stands.table.kept;

@@ -264,6 +264,7 @@ module _ {s n : ℕ} {limits : Limits} {st : State} {D : List Deed} (stands : St
           far = shows.far;
           hands = shows.hands;
           loans = λ rep counted. shows.loans rep counted ∙ ap (λ V. times rep (lent_in s V)) (sym after ∙ outstanding);
+          passed = shows.passed;
           dirties = shows.dirties;
           places = shows.places;
           kept = shows.kept;

@@ -10,6 +10,7 @@ pub mod Letting
 pub mod Pinned
 pub mod Exported
 pub mod Begins
+pub mod Birthing
 pub mod Ends
 pub mod Hands
 pub mod Firsts

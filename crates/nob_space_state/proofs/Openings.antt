@@ -337,6 +337,7 @@ module _ {s n : ℕ} {limits : Limits} {st : State} {D : List Deed} (stands : St
     ] refl;
     hands = stands.table.hands;
     loans = λ rep counted. stands.table.loans rep counted ∙ ap (λ w. times rep (lent_in s w)) (sym (work_opened s n p k D));
+    passed = stands.table.passed;
     dirties = stands.table.dirties ∙ ap length (sym (dirties_opened s n p k D));
     places = λ rep. stands.table.places rep ∙ ap (λ reps. if standings.is_surrogate (standing st.table rep).state then transit.last_place rep reps else None) (sym (dirties_opened s n p k D));
     kept = used_still s st.table st.table (history_of s n D) (history_of s n (Open p k ∷ D)) (λ rep. refl) bundles_then listed_then stands.table.kept;

@@ -313,6 +313,7 @@ module _ {s n : ℕ} {limits : Limits} {st : State} {D : List Deed} (stands : St
             far = shows.far;
             hands = λ rep counted. shows.hands rep counted ∙ take_hand rep counted;
             loans = λ rep counted. shows.loans rep counted ∙ take_loans rep;
+            passed = shows.passed;
             dirties = shows.dirties;
             places = shows.places;
             kept = shows.kept;
@@ -355,6 +356,7 @@ module _ {s n : ℕ} {limits : Limits} {st : State} {D : List Deed} (stands : St
           far = stands.table.far;
           hands = stands.table.hands;
           loans = λ rep counted. stands.table.loans rep counted ∙ ap (λ (w : Outstanding). times rep (lent_in s w)) (sym end_work);
+          passed = stands.table.passed;
           dirties = stands.table.dirties;
           places = stands.table.places;
           kept = stands.table.kept;

@@ -1,5 +1,5 @@
 -- What a change of an own object's row makes of what the table shows.
-use Rattle.std.proofs.Common.{◌≡◌, ℕ, Bool, true, false, not, ◌&&◌, ◌==◌, List, [], ◌∷◌, length, cond, Option, Some, None, if◌then◌else◌, refl, sym, ap, subst, ◌∙◌}
+use Rattle.std.proofs.Common.{◌≡◌, ℕ, ◌+◌, Bool, true, false, not, ◌&&◌, ◌==◌, List, [], ◌∷◌, length, cond, Option, Some, None, if◌then◌else◌, refl, sym, ap, subst, ◌∙◌}
 use Rattle.std.proofs.lemmas.Map.Made.{length-from_same_keys}
 use Rattle.std.proofs.lemmas.Map.Views.{any-filter_same}
 use Rattle.std.specs.List.{IsDistinct, AllByRecursion, list_any, filter}
@@ -21,7 +21,7 @@ use Rattle.nob_model_history.specs.declared.history.History.{History}
 use Rattle.nob_model_history.specs.Transit as transit
 use Rattle.nob_model.specs.Right.{own_ref}
 use Rattle.nob_table_rows.specs.Counts as counts
-use Rattle.nob_space_holds.specs.Shows.{TableShows, AreUsed, far_state}
+use Rattle.nob_space_holds.specs.Shows.{TableShows, AreUsed, behind, far_state}
 use Rattle.nob_space_holds.proofs.Shows.{one_row}
 use Rattle.nob_space_state.proofs.Told.{own_is}
 
@@ -113,8 +113,9 @@ module _ (s n : ℕ) (h h' : History) (H L H' L' : WireRep → ℕ) (t u : Table
             ∙ ap (λ w. far_state (closed other.owner h'.deeds) (counts.is_held (standing t other).counts) w) (same_turns other));
         hands = one_row (λ other it. is_counted other ≡ true → it.counts.hand ≡ H' other) rep (standing t) (standing u) after becomes hand (λ other differs counted. shows.hands other counted ∙ hands other counted differs);
         loans = one_row (λ other it. is_counted other ≡ true → it.counts.lent ≡ L' other) rep (standing t) (standing u) after becomes lent (λ other differs counted. shows.loans other counted ∙ loans other counted differs);
-        dirties = surrogates.dirties ∙ shows.dirties ∙ ap length dirties;
-        places = λ other. surrogates.places other ∙ shows.places other
+        passed = shows.passed;
+        dirties = ap (λ k. shows.passed + k) surrogates.dirties ∙ shows.dirties ∙ ap length dirties;
+        places = λ other. ap (behind shows.passed) (surrogates.places other) ∙ shows.places other
             ∙ ap (λ b. if b then transit.place other h else None) (sym (one_row (λ w it. is_surrogate it.state ≡ is_surrogate (standing t w).state) rep (standing t) (standing u) after becomes (surrogate ∙ sym before) (λ w differs. refl) other))
             ∙ ap (λ reps. if is_surrogate (standing u other).state then transit.last_place other reps else None) dirties;
         kept = kept;

@@ -154,6 +154,7 @@ module _ {s n p : ℕ} {item : Item} {deed : Deed} {D : List Deed} (hands : Hand
         ∙ ap (λ w. far_state (closed rep.owner (deed ∷ D)) (is_held (standing t rep).counts) w) (sym (hands.same_turns rep));
     hands = λ rep counted. shows.hands rep counted ∙ hand_is rep counted;
     loans = λ rep counted. shows.loans rep counted ∙ on_loan rep counted;
+    passed = shows.passed;
     dirties = shows.dirties ∙ ap length (sym dirties_then);
     places = λ rep. shows.places rep ∙ ap (λ reps. if standings.is_surrogate (standing t rep).state then transit.last_place rep reps else None) (sym dirties_then);
     kept = used_then s t t (history_of s n D) (history_of s n (deed ∷ D)) (λ rep kept. kept) (λ rep none. fewer_pins rep (transit.bundles (history_of s n D)) _ (sym (λ i. times rep (flat_map (λ (item : SentItem). counted_in item.item) (bundles_kept s n deed D hands.settles_nothing hands.closes_nothing hands.opens_nothing i))) ∙ none)) hands.listed shows.kept;

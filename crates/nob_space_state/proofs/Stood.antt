@@ -37,6 +37,7 @@ module _ {s n : ℕ} {deed : Deed} {D : List Deed} (quiet : IsQuiet s n deed D) 
         ∙ ap (λ w. far_state (closed rep.owner (deed ∷ D)) (is_held (standing t rep).counts) w) (sym (quiet.turns rep));
     hands = λ rep counted. shows.hands rep counted ∙ hands rep counted;
     loans = λ rep counted. shows.loans rep counted ∙ loans rep counted;
+    passed = shows.passed;
     dirties = shows.dirties ∙ ap length (sym quiet.dirties);
     places = λ rep. shows.places rep ∙ ap (λ reps. if standings.is_surrogate (standing t rep).state then transit.last_place rep reps else None) (sym quiet.dirties);
     kept = used_still s t t (history_of s n D) (history_of s n (deed ∷ D)) (λ rep. refl) quiet.bundles quiet.listed shows.kept;

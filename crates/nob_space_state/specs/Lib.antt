@@ -10,3 +10,4 @@ pub mod Stands
 pub mod Closing
 pub mod Dues
 pub mod Opening
+pub mod Births

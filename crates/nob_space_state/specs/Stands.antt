@@ -1,12 +1,13 @@
 -- For which lists of what a space did its state stands: one equation for each part, by the words that are read off
 -- the whole list. The newest stands FIRST.
-use Rattle.std.specs.Prelude.{◌≡◌, ℕ, ◌+◌, true, not, List, [], ◌∷◌, length, slice_get, map, Some, Result, Ok, Err, IsOk}
+use Rattle.std.specs.Prelude.{◌≡◌, ◌==◌, ℕ, ◌+◌, true, not, if◌then◌else◌, List, [], ◌∷◌, length, slice_get, map, Some, Result, Ok, Err, IsOk}
 use Rattle.std.specs.List.{sum_by}
 use Rattle.nob_ids.specs.declared.limits.Limits.{Limits}
 use Rattle.nob_ids.specs.declared.wire_rep.WireRep.{WireRep}
 use Rattle.nob_item.specs.Kinds.{counted_in}
 use Rattle.nob_session.specs.Stands as session
 use Rattle.nob_session.specs.Stands.{Roomy}
+use Rattle.nob_session.specs.Calls.{beginning}
 use Rattle.nob_session.specs.Onward.{StandsOnward}
 use Rattle.nob_dirty.specs.Sets.{lists}
 use Rattle.nob_pins.specs.Bundles.{Pinned, bundle_of}
@@ -91,7 +92,11 @@ AnswersOrWants answer (Ok x) right = right ≡ Ok (answer x)
 AnswersOrWants answer (Err (errors.Refused refusal)) right = right ≡ Err refusal
 AnswersOrWants answer (Err errors.OutOfMemory) right = IsOk right
 
--- ends of space s with the spaces from p on, one after the other, on which no call was made yet
-abbrev pub AreOpened : (s p : ℕ) → Limits → List Roomy → Type 0
-AreOpened s p limits [] = Unit {0}
-AreOpened s p limits (end ∷ ends) = session.Stands s p limits end.end [] × AreOpened s (p + 1) limits ends
+-- the number of the session in which the end with p begins: that of a birth, and 1 at the space's own place
+abbrev pub first_session : (s : ℕ) → (ℕ → ℕ) → (p : ℕ) → ℕ
+first_session s numbers p = if p == s then 1 else numbers p
+
+-- ends of space s with the spaces from p on, one after the other: each is new, in the session in which it begins
+abbrev pub AreBegun : (s : ℕ) → (ℕ → ℕ) → (p : ℕ) → Limits → List Roomy → Type 0
+AreBegun s numbers p limits [] = Unit {0}
+AreBegun s numbers p limits (end ∷ ends) = (end.end ≡ beginning (first_session s numbers p) (session.end_of s p limits [])) × AreBegun s numbers (p + 1) limits ends

@@ -2,6 +2,7 @@
 //! stands.
 #![tactic(auto)]
 
+mod birth;
 mod calls;
 mod closing;
 mod error;
@@ -18,6 +19,7 @@ mod sessions;
 mod shut;
 mod take;
 
+pub use birth::{Birth, BirthError, BirthFault};
 pub use error::SpaceError;
 pub use finish::ReplyFate;
 pub use listings::{settle_pins, unlist};

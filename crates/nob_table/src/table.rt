@@ -1,13 +1,13 @@
 //! The table itself.
 
-ghost use Rattle.std.specs.Prelude.{◌≡◌, List, is_some, ◌+◌, ◌^◌, ℕ, ◌<◌, ◌≤◌, ◌==◌, true, false, ◌++◌, ◌∷◌, [], filter, not, length, slice_get, None, Some, IsSome, IfSome, IsTrue, IsOk, OnOk, OnErr, IfOk, IfErr, MatchOption, MatchResult, if◌then◌else◌};
+ghost use Rattle.std.specs.Prelude.{◌≡◌, List, is_some, ◌+◌, ◌^◌, ℕ, ◌<◌, ◌≤◌, ◌==◌, ◌&&◌, true, false, ◌++◌, ◌∷◌, [], filter, not, length, slice_get, None, Some, IsSome, IfSome, IsTrue, IsOk, OnOk, OnErr, IfOk, IfErr, MatchOption, MatchResult, if◌then◌else◌};
 ghost use Rattle.nob_ids.specs.declared.wire_rep.WireRep.{WireRep};
 ghost use Rattle.nob_table_rows.specs.Counts.{is_held};
 ghost use Rattle.nob_ids.specs.Names.{is_same};
 ghost use Rattle.nob_rows.specs.Rows.{IsOnce};
 ghost use Rattle.std.specs.List.{list_any};
 ghost use Rattle.nob_table_rows.specs.Standings.{unknown, is_known, is_live, is_lost, is_surrogate, state_of, withdrawn, exported_standing, pending_standing, with_counts, in_state, after_hold, after_release, after_close};
-ghost use Rattle.nob_table.specs.Table.{Table, standing, surrogate_total, most_objects, most_surrogates, most_index, surrogate_reps, place_of, IsOrder, live, live_reps, own, export_fault, hold_fault, release_fault, pending_fault, answer_fault, remove_fault, withdraw_fault, Becomes, SetsKept, Marked, is_kept, is_keepable, SameObjects, ExportLeaves, WithdrawalLeaves, ChangeLeaves, RemovalLeaves, Stays, Places, IsRefusal, NoneIdle, IsFirstIdle, NeverUnheld, IsFirstUnheld, NeverSpare, IsFirstSpare, NeverSpareFrom, IsFirstSpareFrom, is_of, KnowsOf};
+ghost use Rattle.nob_table.specs.Table.{Table, standing, surrogate_total, most_objects, most_surrogates, most_index, surrogate_reps, place_of, IsOrder, live, live_reps, own, was_given, export_fault, hold_fault, release_fault, pending_fault, answer_fault, remove_fault, withdraw_fault, Becomes, SetsKept, Marked, is_kept, is_keepable, SameObjects, ExportLeaves, WithdrawalLeaves, ChangeLeaves, RemovalLeaves, Stays, Places, IsRefusal, NoneIdle, IsFirstIdle, NeverUnheld, IsFirstUnheld, NeverSpare, IsFirstSpare, NeverSpareFrom, IsFirstSpareFrom, is_of, KnowsOf};
 
 use crate::far::Far;
 use nob_ids::{SpaceId, WireRep};
@@ -71,9 +71,27 @@ impl ObjectTable {
         ensures nothing { (rep : WireRep) → standing result rep ≡ unknown }
         ensures kept { (rep : WireRep) → is_kept result rep ≡ false }
     {
+        ObjectTable::begin_at(alloc, me, 0)
+    }
+
+    /// The table of a space that gave so many indexes before, has withdrawn each of their objects,
+    /// and has heard of nothing. The caller's condition: no index was above the greatest.
+    pub fn begin_at(alloc: Global, me: SpaceId, exported: u64) -> ObjectTable
+        requires { exported ≤ most_index }
+        ensures me { result.me ≡ me }
+        ensures exported { result.exported ≡ exported }
+        ensures live { live result ≡ 0 }
+        ensures dirties { result.dirties ≡ 0 }
+        ensures surrogates { surrogate_total result ≡ 0 }
+        ensures order { IsOrder result [] }
+        ensures nothing { (rep : WireRep)
+            → standing result rep
+            ≡ (if rep.owner == me && was_given exported rep.index then withdrawn else unknown) }
+        ensures kept { (rep : WireRep) → is_kept result rep ≡ false }
+    {
         ObjectTable {
             me,
-            objects: Objects::new(alloc),
+            objects: Objects::begin_at(alloc, exported),
             far: Far::new(alloc),
         }
     }

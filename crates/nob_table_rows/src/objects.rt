@@ -59,14 +59,14 @@ impl Model for Objects {
 }
 
 impl Objects {
-    /// No objects, and no index was given.
-    pub fn new(alloc: Global) -> Objects
-        ensures exported { result.exported ≡ 0 }
+    /// No objects, behind so many indexes that were given before.
+    pub fn begin_at(alloc: Global, exported: u64) -> Objects
+        ensures exported { result.exported ≡ exported }
         ensures rows { result.rows ≡ [] }
         ensures kept { result.kept ≡ [] }
     {
         Objects {
-            exported: 0,
+            exported,
             live: 0,
             slots: Slots::new(alloc),
             unheld: Marks::new(alloc),

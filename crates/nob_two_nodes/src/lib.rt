@@ -10,4 +10,4 @@ mod sides;
 pub use holds::{answer_to, give_back, give_back_all, look_up, offer, retire};
 pub use partner::Partner;
 pub use player::{Played, Player};
-pub use running::run_two;
+pub use running::{run_two, run_two_keeping};

@@ -29,12 +29,13 @@ pub(crate) struct Side {
     other: SpaceId,
 }
 
-/// The sides of the spaces 1 and 2, with a link each way. Only memory fails it.
-pub(crate) fn both_sides(alloc: Global) -> Option<(Side, Side)> {
+/// The sides of the spaces 1 and 2, with a link each way, whose nodes keep this of their entries.
+/// Only memory fails it.
+pub(crate) fn both_sides(alloc: Global, keep: Keep) -> Option<(Side, Side)> {
     let first = SpaceId::new(1)?;
     let second = SpaceId::new(2)?;
-    let our_config = config_of(first)?;
-    let their_config = config_of(second)?;
+    let our_config = config_of(first, keep)?;
+    let their_config = config_of(second, keep)?;
     let (put_there, take_there) = link(alloc, LINK).ok()?;
     let (put_back, take_back) = link(alloc, LINK).ok()?;
     let ours = Side {
@@ -52,10 +53,10 @@ pub(crate) fn both_sides(alloc: Global) -> Option<(Side, Side)> {
     Some((ours, theirs))
 }
 
-// How the node of a space runs.
-fn config_of(space: SpaceId) -> Option<Config> {
+// How the node of a space runs that keeps this of its entries.
+fn config_of(space: SpaceId, keep: Keep) -> Option<Config> {
     let config = Config::new(space, 2, Limits::default(), WORKERS, PAUSE, 0)?;
-    Some(config.keeping(Keep::Nothing))
+    Some(config.keeping(keep))
 }
 
 /// Runs the node of a side until both players have returned: the player, where the node didn't

@@ -5,6 +5,8 @@ use Rattle.nob_trace.specs.declared.trace.Trace.{Trace}
 use Rattle.nob_trace.specs.declared.fault.TraceFault.{TraceFault}
 use Rattle.nob_trace.specs.Traces.{trace_text, IsTrace}
 use Rattle.nob_trace.specs.Reading.{TraceProblem, TracesProblem}
+use Rattle.nob_chain.specs.declared.chain.ChainParts.{ChainParts}
+use Rattle.nob_chain.specs.Chains.{chain_text, IsChain}
 use Rattle.nob_text.specs.Lines.{lines_of}
 use Rattle.test_definitions.specs.Verdicts.{IsVerdict}
 use Rattle.nob_script_text.specs.declared.ending.Ending.{Ending}
@@ -22,6 +24,10 @@ BeginsAsTrace input = BeginsWith (codes "trace ") input ⊎ BeginsWith (codes "t
 -- the input is traces, one after the other, and what is written is the input
 abbrev pub IsCopy : List ℕ → List ℕ → Type 0
 IsCopy input text = (text ≡ input) × (all : List Trace) × AllByRecursion IsTrace all × (input ≡ flat_map trace_text all)
+
+-- the input is one chain, and what is written is the input
+abbrev pub IsChainCopy : List ℕ → List ℕ → Type 0
+IsChainCopy input text = (text ≡ input) × (chain : ChainParts) × IsChain chain × (input ≡ chain_text chain)
 
 -- the input is one trace, and what is written is what is said of it
 abbrev pub IsJudged : List ℕ → List ℕ → Type 0

@@ -2,8 +2,8 @@
 //! It reads a script of a world, one trace, or the entries of a journal, from standard input; it
 //! answers each step by the plain program of nob_model, and says of a journal by that of
 //! nob_model_journal which promise isn't kept. It is slow on purpose. With the word `copy` it writes
-//! traces again, with `check` it checks them by the definitions, and with `space` it runs a trace on a
-//! space.
+//! traces again, with `chain` a chain, with `check` it checks both by the definitions, and with `space`
+//! it runs a trace on a space.
 #![tactic(auto)]
 
 ghost use Rattle.std.specs.Prelude.{◌≡◌, true, false, codes};
@@ -11,6 +11,7 @@ ghost use Rattle.nob_trace.specs.Reading.{Answers};
 ghost use Rattle.nob_text.specs.Lines.{lines_of};
 ghost use Rattle.test_definitions.specs.Outputs.{BeginsAsTrace, BeginsWith, IsOutput, IsRefused, has_equals_sign as has_equals_sign_in, has_results as has_results_of};
 
+mod chain;
 mod checking;
 mod entries;
 mod replay;
@@ -31,7 +32,9 @@ enum Task {
     Answer,
     // Traces are written as they were read.
     Copy,
-    // Traces are checked by the definitions.
+    // A chain is written as it was read.
+    CopyChain,
+    // Chains and traces are checked by the definitions.
     Check,
     // A trace is run on a space.
     Replay,
@@ -69,6 +72,7 @@ fn task_of(rt: &HostRuntime) -> io::Result<Task> {
 // The task that a word names.
 fn task_named(word: &str) -> Task {
     match word {
+        "chain" => Task::CopyChain,
         "check" => Task::Check,
         "space" => Task::Replay,
         _ => Task::Copy,
@@ -80,6 +84,7 @@ fn written_for(alloc: Global, input: &[u8], task: Task) -> Result<Vec<u8>, Trace
     match task {
         Task::Answer => output_of(alloc, input, false),
         Task::Copy => output_of(alloc, input, true),
+        Task::CopyChain => chain::output_of(alloc, input),
         Task::Check => checking::output_of(alloc, input),
         Task::Replay => replay::verdict_of(alloc, input),
     }

@@ -2,16 +2,13 @@
 use denote.Param.Send.{IsSend, IsSync, sendable, recorded_send, recorded_sync, struct_send, struct_sync}
 use denote.Struct.Declared.{shape}
 use denote.Struct.Struct.{Struct}
-use Rattle.std.proofs.Crossing.{crosses, Vec-sync}
-use Rattle.std.specs.contracts.sync.Condvar as Condvar
+use Rattle.std.proofs.Crossing.{crosses}
 use Rattle.nob_dispatch.proofs.Crossing.{desk_send, hand_send}
 use Rattle.nob_dispatch.specs.contracts.desk.Desk as Desk
 use Rattle.nob_dispatch.specs.contracts.hand.Hand as Hand
 use Rattle.nob_dispatch_jobs.proofs.shelf.Shelf.TheSendSync as shelf
 use Rattle.nob_dispatch_jobs.specs.contracts.shelf.Shelf as Shelf
-use Rattle.nob_keeper.proofs.Crossing.{kept_send, seat_send}
-use Rattle.nob_keeper.specs.contracts.held.Held as Held
-use Rattle.nob_keeper.specs.contracts.keeper.Keeper as Keeper
+use Rattle.nob_keeper.proofs.Crossing.{keeper_field_sync, seat_send}
 use Rattle.test_pool.proofs.objects.Thing.TheSendSync as thing
 use Rattle.test_pool.specs.contracts.objects.Thing as Thing
 use Rattle.test_pool.specs.contracts.site.Site as Site
@@ -38,23 +35,6 @@ pub post_send : IsSend Post.the_row
 post_send =
     let T = Post.the_type in
     recorded_send (Struct (shape T)) T.D T.to T.to_one (struct_send (shape T) (search sendable, (task_field_send, tt)))
-
-condvar_row_sync : IsSync Condvar.the_row
-condvar_row_sync = search (crosses, sendable) depth 60 fits 20000
-
-condvar_sync : IsSync (Condvar.the_field).row
-condvar_sync = search (crosses, sendable) depth 60 fits 20000
-
-held_send : IsSend Held.the_row
-held_send =
-    let T = Held.the_type in
-    recorded_send (Struct (shape T)) T.D T.to T.to_one (struct_send (shape T) (kept_send, (search (crosses, sendable) depth 60, tt)))
-
-keeper_field_sync : IsSync (Keeper.the_field).row
-keeper_field_sync = struct_sync (shape Keeper.the_type) (
-  search (crosses, sendable) depth 60,
-  (search sendable depth 30, (search (held_send, crosses, sendable) depth 60, (condvar_sync, (condvar_sync, (condvar_sync, (Vec-sync Condvar.the_row condvar_row_sync, tt)))))),
-)
 
 pub site_sync : IsSync Site.the_row
 site_sync =

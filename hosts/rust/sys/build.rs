@@ -1,9 +1,10 @@
 //! Links the static library of `nob_host` where there is one, and never makes or proves it.
 //!
-//! In this order: the file that NOB_HOST_ARCHIVE names; `crates/nob_host/out/libnob_host.a` of the
-//! repository that this crate stands in, with the kit's `liblibc_c.a`, which takes memory for it
-//! (RATTLE_KIT names the kit's folder, where `rt` isn't to be asked). Else, or with the feature
-//! `stand-in`, the stand-in takes the library's place; a release build wants the feature for that.
+//! In this order: the file that NOB_HOST_ARCHIVE names; the one for this target that the package carries
+//! below `lib`; `crates/nob_host/out/libnob_host.a` of the repository that this crate stands in. The first
+//! and the last go with the kit's `liblibc_c.a`, which takes memory for them (RATTLE_KIT names the kit's
+//! folder, where `rt` isn't to be asked); the package carries it too. Else, or with the feature `stand-in`,
+//! the stand-in takes the library's place; a release build wants the feature for that.
 
 use std::env;
 use std::path::{Path, PathBuf};
@@ -11,6 +12,7 @@ use std::process::Command;
 
 fn main() {
     println!("cargo::rustc-check-cfg=cfg(nob_host_library)");
+    println!("cargo::rustc-check-cfg=cfg(nob_host_carried)");
     println!("cargo::rerun-if-env-changed=NOB_HOST_ARCHIVE");
     println!("cargo::rerun-if-env-changed=RATTLE_KIT");
     let wants_stand_in = env::var_os("CARGO_FEATURE_STAND_IN").is_some();
@@ -23,12 +25,13 @@ fn main() {
 
 // The archive, and the kit's functions that take memory for it.
 fn library() -> Result<(PathBuf, PathBuf), String> {
+    let own = Path::new(env!("CARGO_MANIFEST_DIR"));
     let archive = match env::var_os("NOB_HOST_ARCHIVE").filter(|named| !named.is_empty()) {
         Some(named) => PathBuf::from(named),
-        None => {
-            let root = Path::new(env!("CARGO_MANIFEST_DIR")).join("../../..");
-            root.join("crates/nob_host/out/libnob_host.a")
-        }
+        None => match carried(own) {
+            Some(both) => return Ok(both),
+            None => own.join("../../../crates/nob_host/out/libnob_host.a"),
+        },
     };
     println!("cargo::rerun-if-changed={}", archive.display());
     if !archive.is_file() {
@@ -39,6 +42,21 @@ fn library() -> Result<(PathBuf, PathBuf), String> {
         true => Ok((archive, allocator)),
         false => Err(format!("there is no {}", allocator.display())),
     }
+}
+
+// The same, where the package carries them for this target: tools/host-package put them there.
+fn carried(own: &Path) -> Option<(PathBuf, PathBuf)> {
+    let folder = own.join("lib").join(env::var("TARGET").ok()?);
+    let [archive, allocator, provenance] =
+        ["libnob_host.a", "liblibc_c.a", "PROVENANCE"].map(|name| folder.join(name));
+    // Nothing is watched that isn't there: cargo would run this each time.
+    if ![&archive, &allocator, &provenance].iter().all(|file| file.is_file()) {
+        return None;
+    }
+    println!("cargo::rerun-if-changed={}", folder.display());
+    println!("cargo::rustc-cfg=nob_host_carried");
+    println!("cargo::rustc-env=NOB_HOST_PROVENANCE={}", provenance.display());
+    Some((archive, allocator))
 }
 
 fn link(archive: &Path, allocator: &Path) {

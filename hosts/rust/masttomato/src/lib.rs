@@ -15,12 +15,14 @@ mod pass;
 pub mod space;
 
 #[cfg(feature = "node")]
-pub use engine::{Counts, Report, Session, SessionReport, Why};
+pub use engine::{Counts, Report, Session, SessionReport, ThreadReport, TurnedAway, Why};
 #[cfg(feature = "node")]
 pub use interface::Interface;
+#[cfg(feature = "tls")]
+pub use node::{BadIdentity, Identity};
 #[cfg(feature = "node")]
 pub use node::{
-    BadPeers, Builder, Call, CallError, Cancelled, Changes, Context, Fault, LocalNode, Node,
+    BadPeers, Builder, Call, CallError, Cancelled, Changes, Context, Fault, LocalNode, Named, Node,
     NodeError, Peers, Remote, Run, Shutdown, Spawn,
 };
 #[cfg(feature = "node")]

@@ -56,7 +56,7 @@ impl Scene {
 
     fn connect(&mut self, one: usize, other: usize) {
         for (here, there) in [(one, other), (other, one)] {
-            let life = Life(there as u64 + 1);
+            let life = Life::only(there as u64 + 1);
             self.engines[here].connected(id(there), life, self.now).expect("its only life");
         }
     }

@@ -3,8 +3,11 @@
 
 mod common;
 
+use common::checking::replay_fault;
 use common::{file, files, nobj};
-use masttomato::space::{Chain, Event, Limits, SegmentSize, Space, SpaceId, script};
+use masttomato::space::{
+    Chain, Event, JoinError, Limits, SegmentSize, Space, SpaceId, join_lives, script,
+};
 
 fn number(text: &str) -> u16 {
     text.parse().expect("a number")
@@ -139,4 +142,42 @@ fn a_seal_that_is_wrong_is_found() {
         Chain::first_line(space.id(), space.spaces(), space.limits(), 2),
         text.lines().next().expect("a line").to_owned() + "\n"
     );
+}
+
+// Two lives, of which the first died before its second entry was sealed: their seals stay as they are, and a wrong one is
+// found where it stands.
+#[test]
+fn the_seals_of_lives_are_judged_as_they_left_them() {
+    let join = |seals: [&str; 2]| {
+        let [first, second] = seals;
+        let first = format!(
+            "life 1 indexes 0 calls 0 jobs 0\n1 export = exported 1.1\n{first}\n2 dup 1.1 = ok\n"
+        );
+        let second =
+            format!("life 2 indexes 1 calls 0 jobs 0\n3 export = exported 1.2\n{second}\n");
+        join_lives(id("1"), Limits::default(), &[vec![first, second]]).map(|chains| chains.concat())
+    };
+    let cases = [
+        (["seal 1 live 1", "seal 3 live 1"], "verdict yes"),
+        (["seal 1 live 2", "seal 3 live 1"], "C5 1 1"),
+        (["seal 2 live 1", "seal 3 live 1"], "C5 1 1"),
+        (["seal 1 live 1", "seal 3 live 2"], "C5 1 3"),
+    ];
+    for (seals, wanted) in cases {
+        let chain = join(seals).expect("lines of lives");
+        assert!(chain.starts_with("chain 1 of 1 window 8 retry 16 segments 3\n"), "{chain}");
+        assert_eq!(replay_fault(&chain).is_none(), wanted == "verdict yes", "{chain}");
+        if let Some(said) = nobj("check", chain.as_bytes()) {
+            assert!(said.ends_with(&format!("{wanted}\n")), "{said}");
+        }
+    }
+    for seal in [
+        "seal",
+        "seal 1",
+        "seal one live 1",
+        "1 export = exported 1.1\nseal 1 live 1\nseal 1 live 1",
+    ] {
+        let refused = join([seal, "seal 3 live 1"]);
+        assert!(matches!(refused, Err(JoinError::Line { life: 1, .. })), "{seal}: {refused:?}");
+    }
 }

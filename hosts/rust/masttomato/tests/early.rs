@@ -22,7 +22,7 @@ fn engine(number: u16, give_up_after: u64) -> Engine {
 fn connect(one: &mut Engine, other: &mut Engine, now: Duration) {
     let (first, second) = (one.id(), other.id());
     for (here, there) in [(one, second), (other, first)] {
-        here.connected(there, Life(there.get().into()), now).expect("its only life");
+        here.connected(there, Life::only(there.get().into()), now).expect("its only life");
     }
 }
 

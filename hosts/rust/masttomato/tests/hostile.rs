@@ -28,9 +28,9 @@ impl Scene {
         let now = Duration::ZERO;
         let engine = |number| Engine::new(Settings::new(id(number), id(3)), now).expect("memory");
         let (mut owner, mut honest) = (engine(HERE), engine(HONEST));
-        owner.connected(id(HONEST), Life(HONEST.into()), now).expect("its first life");
-        owner.connected(id(HOSTILE), Life(HOSTILE.into()), now).expect("its first life");
-        honest.connected(id(HERE), Life(HERE.into()), now).expect("its first life");
+        owner.connected(id(HONEST), Life::only(HONEST.into()), now).expect("its first life");
+        owner.connected(id(HOSTILE), Life::only(HOSTILE.into()), now).expect("its first life");
+        honest.connected(id(HERE), Life::only(HERE.into()), now).expect("its first life");
         Scene { owner, honest, now, served: 0 }
     }
 
@@ -342,6 +342,68 @@ fn one_that_uses_the_numbers_of_sessions_up() {
     let refused = Err(SpaceError::Refused(Refusal::Limit));
     assert_eq!(scene.owner.open(id(HOSTILE), scene.now), refused);
     assert_eq!(scene.session(HOSTILE), Session::Closed(Reason::Asked));
+    scene.assert_serves();
+}
+
+// A call of an object by its index, which the peer wasn't given.
+fn guess(number: u64, index: u64) -> Vec<u8> {
+    let mut item = call(number, &[0]);
+    item[9..17].copy_from_slice(&index.to_be_bytes());
+    item
+}
+
+// The statuses of the replies in all that the owner has for it, a record after the other.
+fn statuses(scene: &mut Scene) -> Vec<u8> {
+    let mut statuses = Vec::new();
+    while !scene.owner.output(id(HOSTILE)).is_empty() {
+        let record = scene.owner.output(id(HOSTILE)).left().to_vec();
+        let mut left = &record[16..];
+        while left.len() > 32 {
+            let length = 32 + u32::from_be_bytes([left[24], left[25], left[26], left[27]]) as usize;
+            if left[2] == 1 && left[32] == 2 {
+                statuses.push(left[32 + 9]);
+            }
+            left = &left[length..];
+        }
+        scene.read();
+        let _ = scene.turn();
+    }
+    statuses
+}
+
+// It calls an object whose index it guessed: that isn't carried out, and answered as a call of a method that there
+// isn't. Once it is listed, as whoever was given the reference is, it is served.
+#[test]
+fn one_that_guesses_an_index() {
+    let mut scene = Scene::new();
+    let object = scene.owner.export().expect("room");
+    scene.send(&sent(1, &guess(1, object.index))).expect("a call");
+    scene.serve_all();
+    assert_eq!((scene.served, statuses(&mut scene)), (0, vec![2]));
+    assert_eq!(scene.owner.counts().calls_unlisted, 1);
+    let mut dirty = vec![4];
+    dirty.extend(object.index.to_be_bytes());
+    scene.send(&sent(2, &dirty)).expect("a note");
+    scene.send(&sent(3, &guess(2, object.index))).expect("a call");
+    scene.serve_all();
+    assert_eq!((scene.served, statuses(&mut scene)), (1, vec![0]));
+    assert_eq!((scene.owner.counts().calls_unlisted, scene.session(HOSTILE)), (1, Session::Open));
+    scene.assert_serves();
+}
+
+// Nor is it carried out where it closes the session behind its call, or says another number of a session.
+#[test]
+fn one_that_guesses_an_index_and_goes() {
+    let mut scene = Scene::new();
+    let object = scene.owner.export().expect("room");
+    let mut close = frame(HOSTILE, HERE, 0, &[1]);
+    close[2] = 3;
+    let both = [frame(HOSTILE, HERE, 1, &guess(1, object.index)), close].concat();
+    scene.send(&record(0, 1, &both)).expect("frames");
+    scene.serve_all();
+    assert_eq!((scene.served, scene.session(HOSTILE)), (0, Session::Closed(Reason::PeerClosed)));
+    let claimed = scene.owner.counts();
+    assert_eq!(claimed.jobs_claimed, claimed.calls_unlisted);
     scene.assert_serves();
 }
 

@@ -1,11 +1,13 @@
 //! Limits of a node: what is said at each, that others go on meanwhile, and how much memory a node takes under those
 //! that peers may use up. Those of which tests/hostile.rs speaks aren't here.
 
-use masttomato::engine::{Answered, Engine, LONGEST_BODY, Life, Session, Settings, Ticket};
+use masttomato::engine::{
+    Answered, Engine, HELLO, Hello, LONGEST_BODY, Life, Session, Settings, Ticket, Why, World,
+};
 use masttomato::space::{Outcome, Refusal, SpaceError, SpaceId, Value};
 use masttomato::{Node, NodeError, Peers, Remote, interface};
-use std::io::{ErrorKind, Read};
-use std::net::TcpStream;
+use std::io::{ErrorKind, Read, Write};
+use std::net::{SocketAddr, TcpStream};
 use std::time::{Duration, Instant};
 
 /// An object of tests.
@@ -33,8 +35,8 @@ fn engine(number: u16, spaces: u16) -> Engine {
 
 fn connect(one: &mut Engine, other: &mut Engine) {
     let (first, second) = (one.id(), other.id());
-    one.connected(second, Life(second.get().into()), Duration::ZERO).expect("its only life");
-    other.connected(first, Life(first.get().into()), Duration::ZERO).expect("its only life");
+    one.connected(second, Life::only(second.get().into()), Duration::ZERO).expect("its only life");
+    other.connected(first, Life::only(first.get().into()), Duration::ZERO).expect("its only life");
 }
 
 // What an engine has for the other comes to it, which does what there is to do.
@@ -152,6 +154,42 @@ fn so_many_strangers_are_waited_for_and_not_for_long() {
     assert_eq!(bell.ring().wait_for(Duration::from_secs(60)), Ok(7));
 }
 
+// Says hello as space 3, and hears why that is refused, if it is.
+fn greet(address: SocketAddr) -> (TcpStream, Option<Why>) {
+    let (life, world) = (Life::only(33), World::default());
+    let hello = Hello { space: id(3), spaces: id(3), world, life, refused: None };
+    let mut stream = TcpStream::connect(address).expect("a node");
+    stream.write_all(&hello.to_bytes()).expect("a socket");
+    let mut answer = [0; HELLO];
+    stream.read_exact(&mut answer).expect("an answer");
+    (stream, Hello::from_bytes(&answer).expect("a hello").refused)
+}
+
+// A peer that sends what no honest one does is hung up on, and let in again when a second has passed, and not before; its
+// session stays as it was.
+#[test]
+fn who_misbehaves_waits_for_a_second() {
+    let owner = Node::builder(id(1), Peers::none()).listen("127.0.0.1:0").spaces(id(3));
+    let owner = owner.start().expect("a node");
+    let address = owner.address().expect("it listens");
+    let (mut stream, refused) = greet(address);
+    assert_eq!(refused, None);
+    let since = Instant::now();
+    stream.write_all(&[0xff; 64]).expect("a socket");
+    eventually("it is hung up on", || is_hung_up(&mut stream));
+    assert_eq!(owner.counts().misbehaved, 1);
+    // Its connection stays, so that its session does.
+    let _let_in = loop {
+        match greet(address) {
+            (stream, None) => break stream,
+            (_, Some(why)) => assert_eq!(why, Why::OtherNumber),
+        }
+        std::thread::sleep(Duration::from_millis(20));
+    };
+    assert!(since.elapsed() >= Duration::from_secs(1), "{:?}", since.elapsed());
+    eventually("its session is open", || owner.session(id(3)) == Session::Open);
+}
+
 // How much memory this process has, where the system says so.
 fn memory() -> Option<usize> {
     let statm = std::fs::read_to_string("/proc/self/statm").ok()?;
@@ -188,7 +226,7 @@ fn what_peers_have_kept_is_bounded() {
     let mut owner = engine(1, 32);
     let now = Duration::ZERO;
     for peer in 2..=32 {
-        owner.connected(id(peer), Life(peer.into()), now).expect("its only life");
+        owner.connected(id(peer), Life::only(peer.into()), now).expect("its only life");
         owner.close(id(peer));
     }
     let Some(before) = memory() else {

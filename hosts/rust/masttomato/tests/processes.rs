@@ -61,6 +61,14 @@ fn a_session_that_is_opened_anew() {
     assert_says("reopened", REOPENED);
 }
 
+#[test]
+fn a_service_that_is_killed_ten_times() {
+    let was = |life| format!("life {life} of the service was called by both, and was killed\n");
+    let lives: String = (1..=10).map(was).collect();
+    let last = "life 11 of the service was called by both, and goes on\nall have ended\n";
+    assert_says("restarted", &(lives + last));
+}
+
 fn assert_says(name: &str, wanted: &str) {
     let output = example(name).stderr(Stdio::inherit()).output().expect("the example");
     let said = String::from_utf8_lossy(&output.stdout);

@@ -1,9 +1,12 @@
 //! What a program that listens to `tracing` hears of two nodes: a span of each call and one of the method at the other
 //! end, which have the same number, and an event of each change of a session.
 
+use masttomato::engine::{HELLO, Hello, Life, World};
 use masttomato::{CallError, Node, Peers, Remote, SpaceId, interface};
 use std::collections::BTreeMap;
 use std::fmt::Debug;
+use std::io::{Read, Write};
+use std::net::TcpStream;
 use std::sync::{Arc, Mutex};
 use std::time::{Duration, Instant};
 use tracing::field::{Field, Visit};
@@ -158,4 +161,29 @@ fn calls_and_methods_are_spans_and_sessions_make_events() {
     eventually("both ends say that they closed", || {
         changes("Closed(Asked)") == 1 && changes("Closed(PeerClosed)") == 1
     });
+
+    // Who is turned away at the door makes one, with where it came from and why.
+    let mut stranger = TcpStream::connect(owner.address().expect("it listens")).expect("a node");
+    stranger.write_all(&[7; 64]).expect("a socket");
+    let from = stranger.local_addr().expect("it has one").to_string();
+    let is_heard = |one: (&str, &str), other: (&str, &str)| {
+        let said = |heard: &Heard, (name, wanted): (&str, &str)| {
+            heard.fields.get(name).is_some_and(|said| said == wanted)
+        };
+        listener.of_name("event").iter().any(|heard| said(heard, one) && said(heard, other))
+    };
+    let why = ("why", "it said no hello");
+    eventually("the stranger is heard of", || is_heard(("from", &from), why));
+
+    // And so does a peer that misbehaves.
+    let other = Node::builder(one, Peers::none()).listen("127.0.0.1:0").spaces(two);
+    let other = other.start().expect("a node");
+    let mut peer = TcpStream::connect(other.address().expect("it listens")).expect("a node");
+    let (life, world) = (Life::only(7), World::default());
+    let hello = Hello { space: two, spaces: two, world, life, refused: None };
+    peer.write_all(&hello.to_bytes()).expect("a socket");
+    peer.read_exact(&mut [0; HELLO]).expect("an answer");
+    peer.write_all(&[0xff; 64]).expect("a socket");
+    let how = ("how", "it sent bytes that are no record");
+    eventually("the peer is heard of", || is_heard(("peer", "2"), how));
 }

@@ -3,7 +3,7 @@
 //! the crate `masttomato`.
 //!
 //! There are two of it. Where the build finds a `libnob_host.a`, [`Handle`] is the proved library's
-//! (`IS_PROVED`); else it is the [`stand_in`]'s, plain Rust that gives the same answers and that nothing is
+//! (`IS_PROVED`), which the package may carry with its [`PROVENANCE`]; else it is the [`stand_in`]'s, plain Rust that gives the same answers and that nothing is
 //! proved of, so that a program is built and tested in seconds where nothing was proved. A release
 //! build without a library is refused, unless the feature `stand-in` asks for it.
 
@@ -29,6 +29,28 @@ pub mod proved {
 /// println!("proved: {}", masttomato_sys::IS_PROVED);
 /// ```
 pub const IS_PROVED: bool = cfg!(nob_host_library);
+
+/// Where the library that is linked comes from, if it is the one that the package carries: the commit of its sources, the
+/// kit that proved and compiled it, and the sums of its files, a line each.
+///
+/// ```
+/// match masttomato_sys::PROVENANCE {
+///     Some(provenance) => assert!(provenance.starts_with("commit ")),
+///     None => assert!(!masttomato_sys::IS_CARRIED),
+/// }
+/// ```
+#[cfg(all(nob_host_library, nob_host_carried))]
+pub const PROVENANCE: Option<&str> = Some(include_str!(env!("NOB_HOST_PROVENANCE")));
+/// Where the library that is linked comes from, if it is the one that the package carries: it isn't.
+#[cfg(not(all(nob_host_library, nob_host_carried)))]
+pub const PROVENANCE: Option<&str> = None;
+
+/// Whether the library that is linked is the one that the package carries.
+///
+/// ```
+/// assert!(!masttomato_sys::IS_CARRIED || masttomato_sys::IS_PROVED);
+/// ```
+pub const IS_CARRIED: bool = PROVENANCE.is_some();
 
 /// What came of what was asked.
 ///

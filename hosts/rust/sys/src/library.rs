@@ -25,9 +25,21 @@ struct RawHandle {
     at: *mut c_void,
 }
 
-// Each takes a handle that keeps a space, but for `nob_new`, which takes one that keeps nothing.
+// Each takes a handle that keeps a space, but for `nob_new` and `nob_begin_at`, which take one that keeps nothing.
 unsafe extern "C" {
     fn nob_new(handle: *mut RawHandle, id: u16, n: u16, window: u64, retry: u64) -> u32;
+    fn nob_begin_at(
+        handle: *mut RawHandle,
+        id: u16,
+        n: u16,
+        window: u64,
+        retry: u64,
+        indexes: u64,
+        calls: u64,
+        jobs: u64,
+        sessions: *const u32,
+        count: usize,
+    ) -> u32;
     fn nob_end(handle: *mut RawHandle);
 
     fn nob_export(handle: *mut RawHandle, told: *mut Told) -> u32;
@@ -123,6 +135,32 @@ impl Handle {
             0 => Ok(Handle(UnsafeCell::new(raw))),
             status => Err(status),
         }
+    }
+
+    /// A space whose life begins behind so many indexes, calls and jobs, in sessions of these numbers; or the status
+    /// that says why there is none.
+    ///
+    /// # Errors
+    /// 60 where a number is outside its range, 71 to 75 where one of the birth's is, 14 for want of memory.
+    // As many numbers as the library's function takes.
+    #[allow(clippy::too_many_arguments)]
+    pub fn begin_at(
+        id: u16,
+        n: u16,
+        window: u64,
+        retry: u64,
+        indexes: u64,
+        calls: u64,
+        jobs: u64,
+        sessions: &[u32],
+    ) -> Result<Handle, u32> {
+        let mut raw = RawHandle { at: std::ptr::null_mut() };
+        let (at, count) = (sessions.as_ptr(), sessions.len());
+        // SAFETY: as of `new`; any numbers may be given, and the sessions are one slice.
+        let status = unsafe {
+            nob_begin_at(&mut raw, id, n, window, retry, indexes, calls, jobs, at, count)
+        };
+        if status == 0 { Ok(Handle(UnsafeCell::new(raw))) } else { Err(status) }
     }
 
     // Asks by a function that wants the handle and a place for what it tells. It is given both as

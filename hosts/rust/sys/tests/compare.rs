@@ -42,7 +42,52 @@ mod compared {
                 (proved, stand_in::Handle::new(id, n, window, retry).expect("numbers"))
             };
             let spaces = (1..=SPACES).map(pair).collect();
-            Both { spaces, state: seed.wrapping_mul(0x9e37_79b9_7f4a_7c15) | 1, frames: Vec::new() }
+            let state = seed.wrapping_mul(0x9e37_79b9_7f4a_7c15) | 1;
+            let mut both = Both { spaces, state, frames: Vec::new() };
+            for place in (0..SPACES).filter(|place| seed >> place & 1 == 1) {
+                both.spaces[place] = both.birth(place as u16 + 1, window, retry);
+            }
+            both
+        }
+
+        // A space whose life begins at random numbers. Those that are out of range are refused by both.
+        fn birth(&mut self, id: u16, window: u64, retry: u64) -> Pair {
+            loop {
+                let [indexes, calls, jobs] = [0; 3].map(|_: u64| self.counted());
+                let n = if self.below(20) == 0 { self.below(40) as u16 } else { SPACES as u16 };
+                let count = if self.below(20) == 0 { self.below(40) as u16 } else { n };
+                let sessions: Vec<u32> = (0..count).map(|_| self.session()).collect();
+                let (one, two) = (indexes, calls);
+                let proved =
+                    proved::Handle::begin_at(id, n, window, retry, one, two, jobs, &sessions);
+                let stands =
+                    stand_in::Handle::begin_at(id, n, window, retry, one, two, jobs, &sessions);
+                match (proved, stands) {
+                    (Ok(proved), Ok(stands)) if n == SPACES as u16 => return (proved, stands),
+                    (proved, stands) => {
+                        let (proved, stands) = (proved.map(drop), stands.map(drop));
+                        assert_eq!(proved, stands, "{n} {indexes} {calls} {jobs} {sessions:?}");
+                    }
+                }
+            }
+        }
+
+        // A count of what was before: mostly small, seldom about its limit.
+        fn counted(&mut self) -> u64 {
+            match self.below(12) {
+                0 => (1 << 48) - 1 + self.below(3),
+                1 => u64::MAX - self.below(2),
+                2 => (1 << 40) - 1 + self.below(3),
+                _ => self.below(5),
+            }
+        }
+
+        fn session(&mut self) -> u32 {
+            match self.below(12) {
+                0 => 0,
+                1 => u32::MAX - self.below(2) as u32,
+                _ => 1 + self.below(3) as u32,
+            }
         }
 
         fn below(&mut self, bound: u64) -> u64 {

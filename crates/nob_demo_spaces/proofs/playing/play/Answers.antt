@@ -5,4 +5,4 @@ use Rattle.nob_demo_spaces.proofs.playing.play.Goals as goal
 
 -- there was no memory for the places
 pub returns-in_default : goal.returns-in_default
-returns-in_default g c = (Some stops.OutOfMemory, empty, [], [], (ap (λ (text : List ℕ). text ++ codes "memory\n") c.requires, refl))
+returns-in_default g c = (Some stops.OutOfMemory, empty, [], [], tt, (ap (λ (text : List ℕ). text ++ codes "memory\n") c.requires, refl))

@@ -1,5 +1,6 @@
 //! What comes over connections: records, frames, and the items in them.
 
+use super::link::Renewal;
 use super::wire::{self, ItemKind, Kind, Seen};
 use super::{Answered, Engine, MOST_UNANSWERED, Misbehaved, STUCK, Session};
 use crate::space::{
@@ -26,8 +27,8 @@ impl Engine {
     /// # let now = Duration::ZERO;
     /// # let mut owner = Engine::new(Settings::new(one, two), now)?;
     /// # let mut caller = Engine::new(Settings::new(two, two), now)?;
-    /// # owner.connected(two, Life(12), now)?;
-    /// # caller.connected(one, Life(11), now)?;
+    /// # owner.connected(two, Life::only(12), now)?;
+    /// # caller.connected(one, Life::only(11), now)?;
     /// caller.call(Ticket(7), one.agent(), 0, Value::Unit);
     /// let _turn = caller.turn(now);
     /// for byte in caller.output(one).left() {
@@ -122,6 +123,14 @@ impl Engine {
         let arrived = match self.space.arrive_bytes(seen.bytes) {
             Ok(arrived) => arrived,
             Err(ArriveError::Fault(_)) => return Err(Misbehaved::NoFrame),
+            Err(ArriveError::Space(SpaceError::FarSession)) => {
+                self.counts.far_frames += 1;
+                return Ok(());
+            }
+            Err(ArriveError::Space(SpaceError::NotCovered)) => {
+                self.counts.not_covered += 1;
+                return Ok(());
+            }
             Err(ArriveError::Space(_)) => {
                 self.counts.wants += 1;
                 return Ok(());
@@ -131,6 +140,11 @@ impl Engine {
             self.closed(peer, reason);
         }
         let Some(link) = self.links.get_mut(peer) else { return Ok(()) };
+        if link.renewal != Renewal::No {
+            let closes = matches!(arrived, Arrived::Closed(Reason::PeerClosed));
+            link.heard_of(seen.session(), closes);
+            self.has_renewals = true;
+        }
         let is_heard = seen.session() == link.number;
         if is_heard {
             link.acked = link.acked.max(seen.ack());
@@ -184,9 +198,13 @@ impl Engine {
         self.is_stirred = true;
         let Some(link) = self.links.get_mut(peer) else { return };
         match link.inbox.pop_front() {
-            Some(ItemKind::Call(call)) => {
+            Some(ItemKind::Call { call, target }) => {
                 link.calls_acted_on += 1;
                 link.asked.insert(call, false);
+                // Whoever may call an object that isn't an agent is listed for it until its calls were acted on.
+                if target != 0 && !self.space.lists(target, peer) {
+                    link.note_unlisted(call, target);
+                }
                 if link.unanswered() > MOST_UNANSWERED {
                     self.counts.misbehaved += 1;
                     self.close(peer);
@@ -216,16 +234,21 @@ impl Engine {
             self.turn.changes.push((peer, link.session));
         }
         link.forget();
-        let held = std::mem::take(&mut link.calls);
-        for call in held {
-            let down = self.down(peer);
-            self.answer(call.ticket, down);
-            self.release_all(call.holds);
-        }
+        self.end_held(peer);
         let mut to_peer: Vec<CallNo> = self.calls_to(peer);
         to_peer.sort_unstable();
         for call in to_peer {
             self.take_reply(call, reason);
+        }
+    }
+
+    // The calls that wait to be made to a peer never are.
+    pub(super) fn end_held(&mut self, peer: SpaceId) {
+        let Some(link) = self.links.get_mut(peer) else { return };
+        for call in std::mem::take(&mut link.calls) {
+            let down = self.down(peer);
+            self.answer(call.ticket, down);
+            self.release_all(call.holds);
         }
     }
 

@@ -27,7 +27,7 @@ impl Engine {
     /// # let [one, two] = [1, 2].map(|number| SpaceId::new(number).expect("1 to 32"));
     /// # let now = Duration::ZERO;
     /// # let mut engine = Engine::new(Settings::new(one, two), now)?;
-    /// engine.connected(two, Life(12), now)?;
+    /// engine.connected(two, Life::only(12), now)?;
     /// engine.call(Ticket(1), two.agent(), 0, Value::Unit);
     /// let _turn = engine.work(now);
     /// assert!(engine.output(two).is_empty());
@@ -57,7 +57,8 @@ impl Engine {
     /// ```
     pub fn next(&self, now: Duration) -> Option<Duration> {
         let waits = self.up.iter().filter_map(|peer| self.next_of(*peer, now));
-        waits.chain([self.look_at]).chain(self.has_stuck.then_some(now + STUCK)).min()
+        let is_soon = self.has_stuck || self.has_renewals;
+        waits.chain([self.look_at]).chain(is_soon.then_some(now + STUCK)).min()
     }
 
     /// Whether there is more to write at once.
@@ -159,12 +160,12 @@ impl Engine {
         chosen.iter().for_each(|frame| out.extend(frame.bytes));
     }
 
-    // The entries of the trace go to their sink before the bytes leave, and what of the chain is sealed to its own.
+    // The entries go to their sinks before the bytes leave: those of the trace, and those of the chain, with its seals.
     pub(super) fn flush(&mut self) {
         let lines = self.space.take_lines();
         self.counts.trace_faults += u64::from(!is_put(&mut self.sink, &lines));
-        let segments = self.space.take_segments();
-        self.counts.trace_faults += u64::from(!is_put(&mut self.chain_sink, &segments));
+        let lines = self.space.take_chain_lines();
+        self.counts.trace_faults += u64::from(!is_put(&mut self.chain_sink, &lines));
     }
 
     // When a peer that is connected wants the next turn at the latest.

@@ -32,7 +32,7 @@ const FIRST_SESSION: u32 = 1;
 /// # use std::time::Duration;
 /// # let [one, two] = [1, 2].map(|number| SpaceId::new(number).expect("a space"));
 /// # let mut engine = Engine::new(Settings::new(one, two), Duration::ZERO)?;
-/// # engine.connected(two, Life(1), Duration::ZERO)?;
+/// # engine.connected(two, Life::only(1), Duration::ZERO)?;
 /// # engine.call(Ticket(1), two.agent(), 0, Value::Unit);
 /// # let _turn = engine.turn(Duration::ZERO);
 /// # let mut written = Vec::new();
@@ -56,7 +56,7 @@ impl OutBuffer {
     /// # let [one, two] = [1, 2].map(|number| SpaceId::new(number).expect("1 to 32"));
     /// # let now = Duration::ZERO;
     /// # let mut engine = Engine::new(Settings::new(one, two), now)?;
-    /// engine.connected(two, Life(12), now)?;
+    /// engine.connected(two, Life::only(12), now)?;
     /// engine.call(Ticket(1), two.agent(), 0, Value::Unit);
     /// let _turn = engine.turn(now);
     /// assert_eq!(engine.output(two).left().len(), 16 + 32 + 20);    // a record's head, a frame's header, an item
@@ -75,7 +75,7 @@ impl OutBuffer {
     /// # let [one, two] = [1, 2].map(|number| SpaceId::new(number).expect("1 to 32"));
     /// # let now = Duration::ZERO;
     /// # let mut engine = Engine::new(Settings::new(one, two), now)?;
-    /// engine.connected(two, Life(12), now)?;
+    /// engine.connected(two, Life::only(12), now)?;
     /// let _turn = engine.turn(now);
     /// assert!(engine.output(two).is_empty());
     /// # Ok::<(), Box<dyn std::error::Error>>(())
@@ -93,7 +93,7 @@ impl OutBuffer {
     /// # let [one, two] = [1, 2].map(|number| SpaceId::new(number).expect("1 to 32"));
     /// # let now = Duration::ZERO;
     /// # let mut engine = Engine::new(Settings::new(one, two), now)?;
-    /// engine.connected(two, Life(12), now)?;
+    /// engine.connected(two, Life::only(12), now)?;
     /// engine.call(Ticket(1), two.agent(), 0, Value::Unit);
     /// let _turn = engine.turn(now);
     /// engine.output(two).advance(60);
@@ -163,6 +163,9 @@ struct PassedOver {
     frames: BTreeMap<u64, Box<[u8]>>,
 }
 
+/// More calls than a peer may have unanswered in a session and in the one before.
+const MOST_UNLISTED: usize = 8_192;
+
 /// A call that waits to be made.
 #[derive(Debug)]
 pub(super) struct HeldCall {
@@ -182,6 +185,17 @@ pub(super) struct HeldFinish {
     pub(super) holds: Vec<Reference>,
 }
 
+/// Whether an engine opens the session with a peer by itself, since either of them began a life under its number.
+#[derive(Clone, Copy, Debug, PartialEq, Eq)]
+pub(super) enum Renewal {
+    /// It doesn't: only its program knows what it had.
+    No,
+    /// The ends may be in different sessions. Where this one closes for that it had nothing, and is opened again.
+    Meets,
+    /// The session closed since a life began, and is opened again once that is heard of; whether it was.
+    Closed { is_heard: bool },
+}
+
 /// What an engine keeps of a peer.
 #[derive(Debug)]
 pub(super) struct Link {
@@ -189,6 +203,9 @@ pub(super) struct Link {
     /// The number of the session: what is kept below of items is of this one.
     pub(super) number: u32,
     pub(super) life: Option<Life>,
+    pub(super) renewal: Renewal,
+    /// The peer is to be called, so that it hears of this space's session.
+    pub(super) greets: bool,
     /// Why there never was a connection, and won't be one unless the session is opened anew.
     pub(super) refused: Option<Why>,
     pub(super) is_up: bool,
@@ -209,6 +226,9 @@ pub(super) struct Link {
     /// The calls of the peer that were acted on and have no reply on its way: whether each was cancelled;
     /// and how many calls were acted on, and replies given.
     pub(super) asked: HashMap<u64, bool>,
+    /// The calls of the peer, and their objects, for which it wasn't listed when they were acted on: they aren't
+    /// carried out, also where their session has closed since.
+    unlisted: VecDeque<(u64, u64)>,
     pub(super) calls_acted_on: u64,
     pub(super) replies_given: u64,
     /// What the peer has acknowledged, by its frames; how much of that was so at the last tick, and when
@@ -237,6 +257,8 @@ impl Link {
             session: Session::Down { since: now },
             number: FIRST_SESSION,
             life: None,
+            renewal: Renewal::No,
+            greets: false,
             refused: None,
             is_up: false,
             input: Vec::new(),
@@ -250,6 +272,7 @@ impl Link {
             unsettled: HashMap::new(),
             passed_over: PassedOver::default(),
             asked: HashMap::new(),
+            unlisted: VecDeque::new(),
             calls_acted_on: 0,
             replies_given: 0,
             acked: 0,
@@ -306,6 +329,16 @@ impl Link {
         self.heard = now;
         self.pinged = None;
         self.owes_pong = false;
+    }
+
+    /// A frame was heard, of this session number, by which the peer closed this end or not: so the ends differ, or have met.
+    pub(super) fn heard_of(&mut self, session: u32, closes: bool) {
+        self.renewal = match self.renewal {
+            Renewal::Closed { .. } => Renewal::Closed { is_heard: true },
+            Renewal::Meets if closes || session > self.number => Renewal::Closed { is_heard: true },
+            Renewal::Meets if self.is_open() && session == self.number => Renewal::No,
+            other => other,
+        };
     }
 
     /// A frame of data came, at which the space accepted so many items: this one's and others that it had
@@ -378,8 +411,24 @@ impl Link {
         self.sent.keep(frame);
         if let ItemKind::Reply(call) = frame.item() {
             self.asked.remove(&call);
+            self.unlisted.retain(|(known, _)| *known != call);
             self.replies_given += 1;
         }
+    }
+
+    /// A call was acted on of an object for which the peer isn't listed.
+    pub(super) fn note_unlisted(&mut self, call: u64, target: u64) {
+        // Of so many the first ones were lost with what they brought, and are never claimed.
+        if self.unlisted.len() == MOST_UNLISTED {
+            self.unlisted.pop_front();
+        }
+        self.unlisted.push_back((call, target));
+    }
+
+    /// Whether a call that is claimed now is one of those, which it isn't any more.
+    pub(super) fn take_unlisted(&mut self, call: u64, target: u64) -> bool {
+        let place = self.unlisted.iter().position(|known| *known == (call, target));
+        place.is_some_and(|place| self.unlisted.remove(place).is_some())
     }
 
     /// How many calls of the peer were acted on and have no reply on its way yet.

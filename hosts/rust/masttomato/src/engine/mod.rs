@@ -12,8 +12,8 @@
 //! let now = Duration::ZERO;
 //! let mut owner = Engine::new(Settings::new(one, two), now)?;
 //! let mut caller = Engine::new(Settings::new(two, two), now)?;
-//! owner.connected(two, Life(12), now)?;
-//! caller.connected(one, Life(11), now)?;
+//! owner.connected(two, Life::only(12), now)?;
+//! caller.connected(one, Life::only(11), now)?;
 //! caller.call(Ticket(7), one.agent(), 3, Value::Int(20));
 //! caller.turn(now);
 //! owner.bytes(two, caller.output(one).left(), now)?;
@@ -30,22 +30,25 @@
 mod coming;
 mod going;
 mod link;
+mod renewing;
 mod report;
 mod trace;
 mod turning;
 mod wire;
 
+pub use crate::space::World;
 pub use link::OutBuffer;
-pub use report::{Report, SessionReport};
+pub(crate) use renewing::GREET;
+pub use report::{Awaited, Doing, Report, Running, SessionReport, ThreadReport, TurnedAway};
 pub use trace::{Files, TraceSink};
-pub use wire::{HELLO, Hello, LONGEST_BODY, Life, Why, World};
+pub use wire::{Flaw, HELLO, Hello, LONGEST_BODY, Life, Why};
 
 use crate::numbers::ByNumber;
 use crate::space::{
-    CallNo, Due, Job, JobNo, Limits, Outcome, Reason, Reference, Refusal, SegmentSize, Space,
-    SpaceError, SpaceId, Status, Value,
+    Birth, BirthError, Bounds, BoundsError, CallNo, Due, Job, JobNo, Limits, Outcome, Reason,
+    Reference, Refusal, SegmentSize, Space, SpaceError, SpaceId, Status, Value,
 };
-use link::{HeldCall, HeldFinish, Link, Links};
+use link::{HeldCall, HeldFinish, Link, Links, Renewal};
 use std::fmt;
 use std::sync::Arc;
 use std::time::Duration;
@@ -79,7 +82,7 @@ const LIMITS: Limits = Limits::new(64, TICKS).expect("these are limits");
 /// # let [one, two] = [1, 2].map(|number| SpaceId::new(number).expect("1 to 32"));
 /// # let now = Duration::ZERO;
 /// # let mut engine = Engine::new(Settings::new(one, two), now)?;
-/// engine.connected(two, Life(12), now)?;
+/// engine.connected(two, Life::only(12), now)?;
 /// engine.call(Ticket(700), two.agent(), 0, Value::Unit);
 /// assert_eq!(engine.number(Ticket(700)).map(|call| call.get()), Some(1));
 /// # Ok::<(), Box<dyn std::error::Error>>(())
@@ -143,7 +146,7 @@ impl Settings {
 /// # let now = Duration::ZERO;
 /// # let mut engine = Engine::new(Settings::new(one, two), now)?;
 /// assert_eq!(engine.session(two), Session::Down { since: now });
-/// engine.connected(two, Life(12), now)?;
+/// engine.connected(two, Life::only(12), now)?;
 /// assert_eq!(engine.session(two), Session::Open);
 /// engine.close(two);
 /// assert_eq!(engine.session(two), Session::Closed(masttomato::Reason::Asked));
@@ -201,6 +204,8 @@ pub enum Answered {
     Lost,
     /// It wasn't made: there was no room for it at once, and it was to be made at once or not at all.
     Busy,
+    /// It wasn't made: the bounds of the engine's life can't be raised, so there is no number for it.
+    NotCovered,
 }
 
 /// What a peer did that no honest one does. Its connection is to be dropped. See [`Engine::bytes`].
@@ -212,7 +217,7 @@ pub enum Answered {
 /// # let [one, two] = [1, 2].map(|number| SpaceId::new(number).expect("1 to 32"));
 /// # let now = Duration::ZERO;
 /// # let mut engine = Engine::new(Settings::new(one, two), now)?;
-/// engine.connected(two, Life(12), now)?;
+/// engine.connected(two, Life::only(12), now)?;
 /// assert_eq!(engine.bytes(two, &[7; 16], now), Err(Misbehaved::NoRecord));
 /// # Ok::<(), Box<dyn std::error::Error>>(())
 /// ```
@@ -257,7 +262,7 @@ impl std::error::Error for Misbehaved {}
 /// # let [one, two] = [1, 2].map(|number| SpaceId::new(number).expect("1 to 32"));
 /// # let now = Duration::ZERO;
 /// # let mut engine = Engine::new(Settings::new(one, two), now)?;
-/// engine.connected(two, Life(12), now)?;
+/// engine.connected(two, Life::only(12), now)?;
 /// let turn = engine.turn(now);
 /// assert_eq!(turn.changes, [(two, Session::Open)]);
 /// assert!(turn.jobs.is_empty() && turn.answers.is_empty() && turn.next.is_some());
@@ -274,6 +279,9 @@ pub struct Turn {
     pub withdrawn: Vec<u64>,
     /// Peers whose sessions stand otherwise than before.
     pub changes: Vec<(SpaceId, Session)>,
+    /// Peers that began a new life, so that what was had of them is lost: each reference to their objects is to be
+    /// given back. Then their sessions are opened again by the engine.
+    pub renewed: Vec<SpaceId>,
     /// Peers that are silent: their connections are to be dropped.
     pub silent: Vec<SpaceId>,
     /// When it wants the next turn at the latest.
@@ -330,6 +338,17 @@ pub struct Counts {
     pub wants: u64,
     /// Times that the trace couldn't be written.
     pub trace_faults: u64,
+    /// Times that the bounds of its life couldn't be raised.
+    pub not_covered: u64,
+    /// Frames that were lost since their sessions were further ahead than any honest peer's.
+    pub far_frames: u64,
+    /// Times that a peer came back as a new life.
+    pub renewals: u64,
+    /// Calls of objects for which their caller wasn't listed: it can't have had the reference, and they were
+    /// answered as if there were no such method.
+    pub calls_unlisted: u64,
+    /// Connections that were hung up on before anybody was let in by them.
+    pub turned_away: u64,
 }
 
 /// A space, its connections' bytes, and all that is kept of its peers. The module has an example of two.
@@ -383,6 +402,8 @@ pub struct Engine {
     is_stirred: bool,
     has_held: bool,
     has_stuck: bool,
+    // Whether a session is to be opened, or a peer to be called, since a life began.
+    has_renewals: bool,
     look_at: Duration,
     calls: ByNumber<CallNo, (Ticket, SpaceId)>,
     // Jobs that weren't finished: whose they are, and since when.
@@ -391,6 +412,7 @@ pub struct Engine {
     ready: Vec<CallNo>,
     turn: Turn,
     counts: Counts,
+    turned_away: Option<TurnedAway>,
     sink: Option<Box<dyn TraceSink>>,
     chain_sink: Option<Box<dyn TraceSink>>,
 }
@@ -423,8 +445,55 @@ impl Engine {
     /// Where its number is above the last one.
     pub fn new(settings: Settings, now: Duration) -> Result<Engine, SpaceError> {
         let space = Space::new(settings.space, settings.spaces, LIMITS)?;
-        let links = Links::new(space.peers(), now);
-        Ok(Engine {
+        Ok(Engine::of(space, settings, now))
+    }
+
+    /// An engine of a space whose life begins behind bounds. What of it is known of earlier lives is nothing; peers that
+    /// knew one close their sessions and open them again by themselves.
+    ///
+    /// ```
+    /// # use masttomato::engine::*;
+    /// # use masttomato::space::Bounds;
+    /// # use masttomato::SpaceId;
+    /// # use std::time::Duration;
+    /// # let path = std::env::temp_dir().join(format!("masttomato-engine-{}", std::process::id()));
+    /// # let [one, two] = [1, 2].map(|number| SpaceId::new(number).expect("1 to 32"));
+    /// # let now = Duration::ZERO;
+    /// Bounds::create(&path, World::named("shop"), one, two)?;
+    /// for first in ["1.1", "1.1025"] {
+    ///     let bounds = Bounds::open(&path, World::named("shop"), one, two)?;
+    ///     let mut engine = Engine::begin_behind(bounds, Settings::new(one, two), now)?;
+    ///     assert_eq!(engine.export()?.to_string(), first);
+    /// }
+    /// # std::fs::remove_file(&path)?;
+    /// # Ok::<(), Box<dyn std::error::Error>>(())
+    /// ```
+    ///
+    /// # Errors
+    /// As of [`Space::begin_behind`].
+    ///
+    /// # Panics
+    /// Where the bounds are another space's than the settings.
+    pub fn begin_behind(
+        bounds: Bounds,
+        settings: Settings,
+        now: Duration,
+    ) -> Result<Engine, BirthError> {
+        let is_its = (bounds.space(), bounds.spaces()) == (settings.space, settings.spaces);
+        assert!(is_its, "the bounds are another space's");
+        Ok(Engine::of(Space::begin_behind(bounds, LIMITS)?, settings, now))
+    }
+
+    fn of(space: Space, settings: Settings, now: Duration) -> Engine {
+        let mut links = Links::new(space.peers(), now);
+        if let Some(bounds) = space.bounds() {
+            for peer in space.peers() {
+                if let Some(link) = links.get_mut(peer) {
+                    link.number = bounds.birth().session(peer);
+                }
+            }
+        }
+        Engine {
             settings,
             peers: space.peers().collect(),
             space,
@@ -434,6 +503,7 @@ impl Engine {
             is_stirred: false,
             has_held: false,
             has_stuck: false,
+            has_renewals: false,
             look_at: now,
             calls: ByNumber::default(),
             jobs: ByNumber::default(),
@@ -441,9 +511,10 @@ impl Engine {
             ready: Vec::new(),
             turn: Turn::default(),
             counts: Counts::default(),
+            turned_away: None,
             sink: None,
             chain_sink: None,
-        })
+        }
     }
 
     /// From now on the entries of the space's trace go to a sink, each before the bytes leave that it
@@ -464,11 +535,21 @@ impl Engine {
     /// ```
     pub fn record(&mut self, sink: Box<dyn TraceSink>) {
         self.space.keep_trace();
-        self.sink = Some(sink);
+        self.sink = self.begun(sink);
     }
 
-    /// From now on the space keeps a chain, whose segments go to a sink as they are sealed. It is to be asked for before
-    /// anything else, and may be beside a trace. See [`Files::of_segments`].
+    // A life says first what it begins behind; and its stamps go on behind those of the lives before.
+    fn begun(&mut self, mut sink: Box<dyn TraceSink>) -> Option<Box<dyn TraceSink>> {
+        let Some(line) = self.space.bounds().map(life_line) else { return Some(sink) };
+        self.space.rise_to(sink.last_stamp());
+        let is_put = sink.entries(&line).is_ok();
+        self.counts.trace_faults += u64::from(!is_put);
+        is_put.then_some(sink)
+    }
+
+    /// From now on the space keeps a chain, whose entries go to a sink, each before the bytes leave that it tells of, and behind
+    /// each segment its seal. The first lines of segments aren't given: [`Files`] puts them in where it joins a chain. It is to be
+    /// asked for before anything else, and may be beside a trace. See [`Files::for_chain`].
     ///
     /// ```
     /// # use masttomato::engine::*;
@@ -478,21 +559,21 @@ impl Engine {
     /// # let [one, two] = [1, 2].map(|number| SpaceId::new(number).expect("1 to 32"));
     /// # let now = Duration::ZERO;
     /// # let mut engine = Engine::new(Settings::new(one, two), now)?;
-    /// engine.record_chain(SegmentSize::default(), Box::new(|segments: &str| {
-    ///     print!("{segments}");
+    /// engine.record_chain(SegmentSize::default(), Box::new(|lines: &str| {
+    ///     print!("{lines}");
     ///     Ok(())
     /// }));
     /// engine.export()?;
-    /// engine.seal();                                   // now it is printed
+    /// engine.seal();                                   // now a seal stands behind it
     /// # Ok::<(), Box<dyn std::error::Error>>(())
     /// ```
     pub fn record_chain(&mut self, size: SegmentSize, sink: Box<dyn TraceSink>) {
         self.space.keep_chain(size);
-        self.chain_sink = Some(sink);
+        self.chain_sink = self.begun(sink);
     }
 
-    /// Seals what of the chain isn't sealed yet, and gives it to its sink: at the end, since what isn't sealed is in no
-    /// chain.
+    /// Seals what of the chain isn't sealed yet, and gives that to its sink: at the end, so that the space itself has said
+    /// what it was then.
     ///
     /// ```
     /// # use masttomato::engine::*;
@@ -550,7 +631,7 @@ impl Engine {
     /// # let [one, two] = [1, 2].map(|number| SpaceId::new(number).expect("1 to 32"));
     /// # let now = Duration::ZERO;
     /// # let mut engine = Engine::new(Settings::new(one, two), now)?;
-    /// engine.connected(two, Life(12), now)?;
+    /// engine.connected(two, Life::only(12), now)?;
     /// engine.call(Ticket(1), two.agent(), 0, Value::Unit);
     /// assert_eq!((engine.counts().calls_made, engine.counts().calls_open), (1, 1));
     /// # Ok::<(), Box<dyn std::error::Error>>(())
@@ -603,26 +684,52 @@ impl Engine {
     /// # let [one, two] = [1, 2].map(|number| SpaceId::new(number).expect("1 to 32"));
     /// # let now = Duration::ZERO;
     /// # let mut engine = Engine::new(Settings::new(one, two), now)?;
-    /// engine.connected(two, Life(12), now)?;
+    /// engine.connected(two, Life::only(12), now)?;
     /// assert_eq!(engine.session(two), Session::Open);
-    /// assert_eq!(engine.connected(one, Life(12), now), Err(Why::OtherNumber));
+    /// assert_eq!(engine.connected(one, Life::only(12), now), Err(Why::OtherNumber));
     /// # Ok::<(), Box<dyn std::error::Error>>(())
     /// ```
     ///
     /// # Errors
-    /// `NumberUsed` where another life has used the peer's number, `OtherNumber` where it is none.
+    /// `NumberUsed` where another process has used the peer's number, `OldLife` where a later life of it is known,
+    /// `OtherNumber` where it is none.
     pub fn connected(&mut self, peer: SpaceId, life: Life, now: Duration) -> Result<(), Why> {
         let link = self.links.get_mut(peer).ok_or(Why::OtherNumber)?;
-        if link.life.is_some_and(|known| known != life) {
-            return Err(Why::NumberUsed);
-        }
+        let follows = link.life.map(|known| life.follows(known)).transpose()?;
         link.up(life, now);
         if !self.up.contains(&peer) {
             self.up.push(peer);
         }
         self.counts.connects += 1;
         self.turn.changes.push((peer, link.session));
+        match follows {
+            None => self.meet(peer, life),
+            Some(true) => self.renew(peer),
+            Some(false) => {}
+        }
         Ok(())
+    }
+
+    /// Whether this life of a peer may be connected now: a connection that stands is given up for another one after that alone.
+    ///
+    /// ```
+    /// # use masttomato::engine::*;
+    /// # use masttomato::SpaceId;
+    /// # use std::time::Duration;
+    /// # let [one, two] = [1, 2].map(|number| SpaceId::new(number).expect("1 to 32"));
+    /// # let now = Duration::ZERO;
+    /// # let mut engine = Engine::new(Settings::new(one, two), now)?;
+    /// engine.connected(two, Life::only(12), now)?;
+    /// assert_eq!(engine.may_connect(two, Life::only(12)), Ok(()));
+    /// assert_eq!(engine.may_connect(two, Life::only(13)), Err(Why::NumberUsed));
+    /// # Ok::<(), Box<dyn std::error::Error>>(())
+    /// ```
+    ///
+    /// # Errors
+    /// As of [`Engine::connected`].
+    pub fn may_connect(&self, peer: SpaceId, life: Life) -> Result<(), Why> {
+        let link = self.links.get(peer).ok_or(Why::OtherNumber)?;
+        link.life.map_or(Ok(()), |known| life.follows(known).map(drop))
     }
 
     /// The connection with a peer is gone.
@@ -634,7 +741,7 @@ impl Engine {
     /// # let [one, two] = [1, 2].map(|number| SpaceId::new(number).expect("1 to 32"));
     /// # let now = Duration::ZERO;
     /// # let mut engine = Engine::new(Settings::new(one, two), now)?;
-    /// engine.connected(two, Life(12), now)?;
+    /// engine.connected(two, Life::only(12), now)?;
     /// let later = now + Duration::from_secs(1);
     /// engine.disconnected(two, later);
     /// assert_eq!(engine.session(two), Session::Down { since: later });
@@ -671,7 +778,8 @@ impl Engine {
         }
         link.session = Session::Refused(why);
         self.turn.changes.push((peer, link.session));
-        let is_for_good = matches!(why, Why::NumberUsed | Why::OtherWorld | Why::OtherSpaces);
+        let is_for_good =
+            matches!(why, Why::NumberUsed | Why::OldLife | Why::OtherWorld | Why::OtherSpaces);
         if is_for_good && link.life.is_none() {
             link.refused = Some(why);
             if let Ok(reason) = self.space.close(peer) {
@@ -763,8 +871,8 @@ impl Engine {
     /// # let now = Duration::ZERO;
     /// # let mut owner = Engine::new(Settings::new(one, two), now)?;
     /// # let mut caller = Engine::new(Settings::new(two, two), now)?;
-    /// # owner.connected(two, Life(12), now)?;
-    /// # caller.connected(one, Life(11), now)?;
+    /// # owner.connected(two, Life::only(12), now)?;
+    /// # caller.connected(one, Life::only(11), now)?;
     /// caller.call(Ticket(7), one.agent(), 3, Value::Int(20));
     /// let job = carry(&mut caller, &mut owner).remove(0);
     /// assert_eq!((job.client, job.method, job.value), (two, 3, Value::Int(20)));
@@ -828,6 +936,15 @@ impl Engine {
                 return true;
             }
             Err(error) if self.is_want_of_room(peer, error) => return false,
+            Err(SpaceError::NotCovered) => {
+                self.counts.not_covered += 1;
+                Answered::NotCovered
+            }
+            // What is asked of the agent waits until the session is open again.
+            Err(SpaceError::Refused(Refusal::Closed)) if target.index == 0 && self.renews(peer) => {
+                self.has_renewals = true;
+                return false;
+            }
             Err(SpaceError::Refused(Refusal::TooBig)) => Answered::TooLarge,
             Err(_) if self.links.get(peer).is_some_and(Link::is_open) => Answered::Lost,
             Err(_) => self.down(peer),
@@ -938,8 +1055,8 @@ impl Engine {
     /// # let now = Duration::ZERO;
     /// # let mut owner = Engine::new(Settings::new(one, two), now)?;
     /// # let mut caller = Engine::new(Settings::new(two, two), now)?;
-    /// # owner.connected(two, Life(12), now)?;
-    /// # caller.connected(one, Life(11), now)?;
+    /// # owner.connected(two, Life::only(12), now)?;
+    /// # caller.connected(one, Life::only(11), now)?;
     /// caller.call(Ticket(7), one.agent(), 0, Value::Unit);
     /// let job = carry(&mut caller, &mut owner).remove(0);
     /// assert!(owner.cancel(two, job.call) && owner.is_cancelled(two, job.call));
@@ -972,8 +1089,8 @@ impl Engine {
     /// # let now = Duration::ZERO;
     /// # let mut owner = Engine::new(Settings::new(one, two), now)?;
     /// # let mut caller = Engine::new(Settings::new(two, two), now)?;
-    /// # owner.connected(two, Life(12), now)?;
-    /// # caller.connected(one, Life(11), now)?;
+    /// # owner.connected(two, Life::only(12), now)?;
+    /// # caller.connected(one, Life::only(11), now)?;
     /// caller.call(Ticket(7), one.agent(), 0, Value::Unit);
     /// let job = carry(&mut caller, &mut owner).remove(0);
     /// assert!(!owner.is_cancelled(two, job.call));
@@ -1003,8 +1120,8 @@ impl Engine {
     /// # let now = Duration::ZERO;
     /// # let mut owner = Engine::new(Settings::new(one, two), now)?;
     /// # let mut caller = Engine::new(Settings::new(two, two), now)?;
-    /// # owner.connected(two, Life(12), now)?;
-    /// # caller.connected(one, Life(11), now)?;
+    /// # owner.connected(two, Life::only(12), now)?;
+    /// # caller.connected(one, Life::only(11), now)?;
     /// caller.call(Ticket(7), one.agent(), 0, Value::Unit);
     /// let job = carry(&mut caller, &mut owner).remove(0);
     /// owner.finish(job.job, Outcome::Answer(Value::Int(42)));
@@ -1069,6 +1186,9 @@ impl Engine {
     /// # Ok::<(), Box<dyn std::error::Error>>(())
     /// ```
     pub fn close(&mut self, peer: SpaceId) {
+        if let Some(link) = self.links.get_mut(peer) {
+            (link.renewal, link.greets) = (Renewal::No, false);
+        }
         if let Ok(reason) = self.space.close(peer) {
             self.closed(peer, reason);
         }
@@ -1100,10 +1220,35 @@ impl Engine {
         let number = self.space.open(peer)?;
         if let Some(link) = self.links.get_mut(peer) {
             link.open(number, now);
+            if link.renewal != Renewal::No {
+                // The other end is told in which number it was opened.
+                (link.renewal, link.greets) = (Renewal::Meets, true);
+                self.has_renewals = true;
+            }
             self.turn.changes.push((peer, link.session));
         }
         self.bring_passed_over(peer, now);
         Ok(number)
+    }
+
+    /// Ends the life of an engine that has bounds, in order: the next one skips no index and no call, and may begin. It
+    /// is the last that is asked of an engine, once its connections are closed.
+    ///
+    /// ```
+    /// # use masttomato::engine::*;
+    /// # use masttomato::SpaceId;
+    /// # use std::time::Duration;
+    /// # let [one, two] = [1, 2].map(|number| SpaceId::new(number).expect("1 to 32"));
+    /// # let now = Duration::ZERO;
+    /// # let mut engine = Engine::new(Settings::new(one, two), now)?;
+    /// engine.end_life()?;                              // it has no bounds
+    /// # Ok::<(), Box<dyn std::error::Error>>(())
+    /// ```
+    ///
+    /// # Errors
+    /// Where that couldn't be written: the next life begins as after a death.
+    pub fn end_life(&mut self) -> Result<(), BoundsError> {
+        self.space.end_life()
     }
 
     /// Closes all sessions, and says bye over each connection once what is due was written.
@@ -1124,8 +1269,8 @@ impl Engine {
     /// # let now = Duration::ZERO;
     /// # let mut owner = Engine::new(Settings::new(one, two), now)?;
     /// # let mut caller = Engine::new(Settings::new(two, two), now)?;
-    /// # owner.connected(two, Life(12), now)?;
-    /// # caller.connected(one, Life(11), now)?;
+    /// # owner.connected(two, Life::only(12), now)?;
+    /// # caller.connected(one, Life::only(11), now)?;
     /// owner.close_all();
     /// carry(&mut owner, &mut caller);
     /// assert_eq!(caller.session(one), Session::Closed(masttomato::Reason::PeerClosed));
@@ -1158,8 +1303,8 @@ impl Engine {
     /// # let now = Duration::ZERO;
     /// # let mut owner = Engine::new(Settings::new(one, two), now)?;
     /// # let mut caller = Engine::new(Settings::new(two, two), now)?;
-    /// # owner.connected(two, Life(12), now)?;
-    /// # caller.connected(one, Life(11), now)?;
+    /// # owner.connected(two, Life::only(12), now)?;
+    /// # caller.connected(one, Life::only(11), now)?;
     /// assert!(caller.is_settled());
     /// caller.call(Ticket(7), one.agent(), 0, Value::Unit);
     /// let _turn = caller.turn(now);
@@ -1187,7 +1332,7 @@ impl Engine {
     /// # let [one, two] = [1, 2].map(|number| SpaceId::new(number).expect("1 to 32"));
     /// # let now = Duration::ZERO;
     /// # let mut engine = Engine::new(Settings::new(one, two), now)?;
-    /// engine.connected(two, Life(12), now)?;
+    /// engine.connected(two, Life::only(12), now)?;
     /// engine.call(Ticket(1), two.agent(), 0, Value::Unit);
     /// let _turn = engine.turn(now);
     /// let record = engine.output(two).left().to_vec();
@@ -1228,4 +1373,15 @@ pub(crate) const CANCELLED: i64 = 5;
 /// A fault as it goes in a reply: a list of its number, which no fault of a method's own has alone.
 pub(crate) fn fault_value(number: i64) -> Value {
     Value::List(vec![Value::Int(number), Value::Unit])
+}
+
+// What a life's trace begins with: its number, and what it begins behind.
+fn life_line(bounds: &Bounds) -> String {
+    let birth = bounds.birth();
+    let Birth { indexes, calls, jobs, .. } = birth;
+    let mut line = format!("life {} indexes {indexes} calls {calls} jobs {jobs}", bounds.life());
+    for peer in bounds.spaces().up_to().filter(|peer| *peer != bounds.space()) {
+        line.push_str(&format!(" {peer}:{}", birth.session(peer)));
+    }
+    line + "\n"
 }

@@ -1,9 +1,10 @@
 //! What who runs a node sees of it.
 
 use super::link::Link;
-use super::{Counts, Engine, Session};
-use crate::space::{SpaceId, Tally};
+use super::{Counts, Engine, Session, Why};
+use crate::space::{CallNo, Reference, SpaceId, Tally};
 use std::fmt::{self, Write};
+use std::net::SocketAddr;
 use std::time::Duration;
 
 /// How a node, or an engine, stands: what it has, its sessions, and what it counted. See
@@ -33,8 +34,186 @@ pub struct Report {
     pub oldest_job: Option<Duration>,
     /// The sessions with all peers, rising.
     pub sessions: Vec<SessionReport>,
+    /// The method of a node that runs for the longest time, and how long, if any does.
+    pub longest: Option<(Running, Duration)>,
+    /// What each of a node's threads does; an engine has none.
+    pub threads: Vec<ThreadReport>,
+    /// The last connection that was hung up on since it wasn't a member's.
+    pub turned_away: Option<TurnedAway>,
     /// What was counted since it began.
     pub counts: Counts,
+}
+
+/// A method that is carried out: see [`Report`].
+///
+/// ```
+/// # use masttomato::engine::{Doing, Running};
+/// fn object(doing: Doing) -> Option<u64> {
+///     match doing {
+///         Doing::Runs(Running { object, .. }) => Some(object),
+///         _ => None,
+///     }
+/// }
+/// ```
+#[derive(Clone, Copy, Debug, PartialEq, Eq)]
+#[non_exhaustive]
+pub struct Running {
+    /// The index of its object.
+    pub object: u64,
+    /// Its number.
+    pub method: u16,
+    /// Who called it.
+    pub caller: SpaceId,
+    /// The number of the call among the caller's; none of a node's call of its own object.
+    pub call: Option<CallNo>,
+}
+
+impl Running {
+    pub(crate) fn new(object: u64, method: u16, caller: SpaceId, call: Option<CallNo>) -> Running {
+        Running { object, method, caller, call }
+    }
+}
+
+impl fmt::Display for Running {
+    fn fmt(&self, f: &mut fmt::Formatter<'_>) -> fmt::Result {
+        write!(f, "method {} of object {} for space {}", self.method, self.object, self.caller)?;
+        self.call.map_or(Ok(()), |call| write!(f, " (its call {call})"))
+    }
+}
+
+/// What a thread of a node does: see [`ThreadReport`].
+///
+/// ```
+/// # use masttomato::{Node, Peers, SpaceId};
+/// # use masttomato::engine::Doing;
+/// # let node = Node::builder(SpaceId::new(1).expect("1 to 32"), Peers::none()).workers(3).start()?;
+/// while node.threads().iter().filter(|thread| thread.doing == Doing::Rests).count() < 3 {}
+/// # Ok::<(), Box<dyn std::error::Error>>(())
+/// ```
+#[derive(Clone, Copy, Debug, PartialEq, Eq)]
+#[non_exhaustive]
+pub enum Doing {
+    /// It waits for something to do.
+    Rests,
+    /// It does what there is to do of a node: it turns it or an async method, or drops an object.
+    Works,
+    /// It carries out a method.
+    Runs(Running),
+}
+
+/// A call whose answer a thread waits for: see [`ThreadReport`].
+///
+/// ```
+/// # use masttomato::engine::ThreadReport;
+/// fn waits_for(thread: &ThreadReport) -> Option<String> {
+///     let awaited = thread.waits_for?;
+///     Some(format!("{}, for {:?}", awaited.target?, awaited.time))
+/// }
+/// ```
+#[derive(Clone, Copy, Debug, PartialEq, Eq)]
+#[non_exhaustive]
+pub struct Awaited {
+    /// The object that was called, once the node has taken the call.
+    pub target: Option<Reference>,
+    /// Which method of it.
+    pub method: Option<u16>,
+    /// How long it waits.
+    pub time: Duration,
+}
+
+impl Awaited {
+    pub(crate) fn new(aim: Option<(Reference, u16)>, time: Duration) -> Awaited {
+        let (target, method) = aim.unzip();
+        Awaited { target, method, time }
+    }
+}
+
+/// What a thread of a node does, and what it waits for: see [`Node::threads`](crate::Node::threads).
+///
+/// ```
+/// # use masttomato::{Node, Peers, SpaceId};
+/// let node = Node::builder(SpaceId::new(1).expect("1 to 32"), Peers::none()).workers(2).start()?;
+/// for thread in node.threads() {
+///     println!("{thread}");           // masttomato-1-worker-2: rests, for 0.0 s
+/// }
+/// # Ok::<(), Box<dyn std::error::Error>>(())
+/// ```
+#[derive(Clone, Debug, PartialEq, Eq)]
+#[non_exhaustive]
+pub struct ThreadReport {
+    /// The thread's name.
+    pub name: String,
+    /// What it does.
+    pub doing: Doing,
+    /// Since when.
+    pub time: Duration,
+    /// The call whose answer its method waits for, if it does.
+    pub waits_for: Option<Awaited>,
+}
+
+impl ThreadReport {
+    pub(crate) fn new(
+        name: String,
+        doing: Doing,
+        time: Duration,
+        waits_for: Option<Awaited>,
+    ) -> ThreadReport {
+        ThreadReport { name, doing, time, waits_for }
+    }
+}
+
+impl fmt::Display for ThreadReport {
+    fn fmt(&self, f: &mut fmt::Formatter<'_>) -> fmt::Result {
+        write!(f, "{}: ", self.name)?;
+        match self.doing {
+            Doing::Rests => f.write_str("rests")?,
+            Doing::Works => f.write_str("works")?,
+            Doing::Runs(running) => write!(f, "runs {running}")?,
+        }
+        write!(f, ", for {:.1} s", self.time.as_secs_f64())?;
+        let Some(awaited) = self.waits_for else { return Ok(()) };
+        f.write_str("; waits for ")?;
+        match (awaited.target, awaited.method) {
+            (Some(target), Some(method)) => write!(f, "method {method} of {target}")?,
+            _ => f.write_str("a call")?,
+        }
+        write!(f, ", for {:.1} s", awaited.time.as_secs_f64())
+    }
+}
+
+/// Who was turned away at a node's door, and why: see [`Report`].
+///
+/// ```
+/// # use masttomato::{Node, Peers, SpaceId};
+/// # use std::io::Write;
+/// # fn main() -> Result<(), Box<dyn std::error::Error>> {
+/// # let [one, two] = [SpaceId::try_from(1)?, SpaceId::try_from(2)?];
+/// let node = Node::builder(one, Peers::none()).listen("127.0.0.1:0").spaces(two).start()?;
+/// let mut stranger = std::net::TcpStream::connect(node.address().ok_or("it listens")?)?;
+/// stranger.write_all(&[7; 64])?;
+/// let turned_away = loop {
+///     if let Some(turned_away) = node.report()?.turned_away {
+///         break turned_away;
+///     }
+/// };
+/// let said = format!("{}: it said no hello", stranger.local_addr()?);
+/// assert_eq!(turned_away.to_string(), said);
+/// # Ok(())
+/// # }
+/// ```
+#[derive(Clone, Copy, Debug, PartialEq, Eq)]
+#[non_exhaustive]
+pub struct TurnedAway {
+    /// Where the connection came from.
+    pub from: SocketAddr,
+    /// Why it was hung up on.
+    pub why: Why,
+}
+
+impl fmt::Display for TurnedAway {
+    fn fmt(&self, f: &mut fmt::Formatter<'_>) -> fmt::Result {
+        write!(f, "{}: {}", self.from, self.why)
+    }
 }
 
 /// How the session with a peer stands: see [`Report`].
@@ -46,7 +225,7 @@ pub struct Report {
 /// # let [one, two] = [1, 2].map(|number| SpaceId::new(number).expect("1 to 32"));
 /// # let now = Duration::ZERO;
 /// # let mut engine = Engine::new(Settings::new(one, two), now)?;
-/// engine.connected(two, Life(12), now)?;
+/// engine.connected(two, Life::only(12), now)?;
 /// engine.call(Ticket(1), two.agent(), 0, Value::Unit);
 /// let session = engine.report(now).sessions[0];
 /// assert_eq!((session.peer, session.session), (two, Session::Open));
@@ -90,8 +269,17 @@ impl Engine {
             jobs: self.jobs.len() as u64,
             oldest_job: since.map(|since| now.saturating_sub(since)),
             sessions: self.peers.iter().filter_map(|peer| self.session_report(*peer)).collect(),
+            longest: None,
+            threads: Vec::new(),
+            turned_away: self.turned_away,
             counts: self.counts(),
         }
+    }
+
+    /// So many more connections were turned away; the last of those of which it is known why.
+    pub(crate) fn turned_away(&mut self, count: u64, last: Option<TurnedAway>) {
+        self.counts.turned_away += count;
+        self.turned_away = last.or(self.turned_away);
     }
 
     fn session_report(&self, peer: SpaceId) -> Option<SessionReport> {
@@ -139,10 +327,15 @@ fn put(
 impl fmt::Display for Report {
     fn fmt(&self, f: &mut fmt::Formatter<'_>) -> fmt::Result {
         let oldest = self.oldest_job.map_or(0.0, |time| time.as_secs_f64());
+        let longest = self.longest.map_or(0.0, |(_, time)| time.as_secs_f64());
+        let is_busy = |thread: &&ThreadReport| matches!(thread.doing, Doing::Runs(_));
+        let busy = self.threads.iter().filter(is_busy).count() as f64;
         let gauges = [
             ("live_objects", "Objects that are exported and not withdrawn.", self.live as f64),
             ("jobs", "Jobs that run or wait for their object.", self.jobs as f64),
             ("oldest_job_seconds", "How long the oldest of these is there.", oldest),
+            ("longest_method_seconds", "How long the longest method runs.", longest),
+            ("threads_busy", "Threads that carry out a method.", busy),
             ("calls_open", "Calls that are open.", self.counts.calls_open as f64),
         ];
         for (name, help, value) in gauges {
@@ -186,13 +379,14 @@ impl Report {
         Ok(())
     }
 
-    fn counters(&self) -> [(&'static str, &'static str, u64); 17] {
+    fn counters(&self) -> [(&'static str, &'static str, u64); 22] {
         let counts = &self.counts;
         [
             ("calls_made", "Calls that were made.", counts.calls_made),
             ("calls_answered", "Calls whose replies came.", counts.calls_answered),
             ("calls_ended", "Calls whose sessions closed first.", counts.calls_ended),
             ("calls_abandoned", "Calls that nobody waited for.", counts.calls_abandoned),
+            ("calls_unlisted", "Calls of objects that were guessed.", counts.calls_unlisted),
             ("jobs_claimed", "Jobs that were claimed.", counts.jobs_claimed),
             ("jobs_finished", "Jobs that were finished.", counts.jobs_finished),
             ("frames_in", "Frames that came.", counts.frames_in),
@@ -206,6 +400,10 @@ impl Report {
             ("misbehaved", "Times that a peer misbehaved.", counts.misbehaved),
             ("wants", "Times that something waited for room or memory.", counts.wants),
             ("trace_faults", "Times that a trace couldn't be written.", counts.trace_faults),
+            ("not_covered", "Times that the life's bounds couldn't be raised.", counts.not_covered),
+            ("far_frames", "Frames of sessions that are too far ahead.", counts.far_frames),
+            ("renewals", "Times that a peer came back as a new life.", counts.renewals),
+            ("turned_away", "Connections that weren't let in.", counts.turned_away),
         ]
     }
 }

@@ -2,7 +2,7 @@
 
 use super::link::Link;
 use super::{Engine, LOOK, NO_ROOM, TICKS, Turn};
-use crate::space::{Due, Reason, SpaceId};
+use crate::space::{Due, Outcome, Reason, SpaceId};
 use std::time::Duration;
 
 impl Engine {
@@ -27,6 +27,7 @@ impl Engine {
         self.fill(now);
         turn.changes.append(&mut self.turn.changes);
         turn.silent.append(&mut self.turn.silent);
+        turn.renewed.append(&mut self.turn.renewed);
         turn.next = self.next(now);
         turn
     }
@@ -50,8 +51,8 @@ impl Engine {
     /// # let now = Duration::ZERO;
     /// # let mut owner = Engine::new(Settings::new(one, two), now)?;
     /// # let mut caller = Engine::new(Settings::new(two, two), now)?;
-    /// # owner.connected(two, Life(12), now)?;
-    /// # caller.connected(one, Life(11), now)?;
+    /// # owner.connected(two, Life::only(12), now)?;
+    /// # caller.connected(one, Life::only(11), now)?;
     /// caller.call(Ticket(7), one.agent(), 0, Value::Unit);
     /// let _turn = caller.turn(now);
     /// owner.bytes(two, caller.output(one).left(), now)?;
@@ -67,6 +68,9 @@ impl Engine {
             for peer in self.peers.clone().iter() {
                 self.act(*peer, now);
             }
+        }
+        if self.has_renewals {
+            self.go_on_renewing(now);
         }
         if now >= self.look_at {
             for peer in self.peers.clone().iter() {
@@ -106,8 +110,8 @@ impl Engine {
     /// # let now = Duration::ZERO;
     /// # let mut owner = Engine::new(Settings::new(one, two), now)?;
     /// # let mut caller = Engine::new(Settings::new(two, two), now)?;
-    /// # owner.connected(two, Life(12), now)?;
-    /// # caller.connected(one, Life(11), now)?;
+    /// # owner.connected(two, Life::only(12), now)?;
+    /// # caller.connected(one, Life::only(11), now)?;
     /// owner.claim_no_more();
     /// caller.call(Ticket(7), one.agent(), 0, Value::Unit);
     /// assert!(carry(&mut caller, &mut owner).is_empty());
@@ -148,7 +152,13 @@ impl Engine {
         let Ok(job) = self.space.claim() else { return false };
         self.counts.jobs_claimed += 1;
         self.jobs.insert(job.job, (job.client, now));
-        self.turn.jobs.push(job);
+        let link = self.links.get_mut(job.client);
+        if link.is_some_and(|link| link.take_unlisted(job.call.get(), job.target)) {
+            self.counts.calls_unlisted += 1;
+            self.finish(job.job, Outcome::NoMethod);
+        } else {
+            self.turn.jobs.push(job);
+        }
         true
     }
 
@@ -203,10 +213,15 @@ impl Engine {
     // Counts a tick where nothing was acknowledged since the last one, and gives up where it is time.
     fn tick(&mut self, peer: SpaceId, now: Duration) {
         let every = self.settings.give_up_after / u32::from(TICKS);
-        let Some(link) = self.links.get_mut(peer).filter(|link| link.is_open()) else { return };
+        let Some(link) = self.links.get_mut(peer) else { return };
         let is_given_up = !link.is_up
             && link.life.is_some()
             && now.saturating_sub(link.down_since) >= self.settings.give_up_after;
+        if is_given_up && !link.is_open() {
+            // What waits for a session that is to be opened again.
+            return self.end_held(peer);
+        }
+        let Some(link) = self.links.get_mut(peer).filter(|link| link.is_open()) else { return };
         if is_given_up && self.space.close(peer).is_ok() {
             return self.closed(peer, Reason::RetriesUsedUp);
         }

@@ -1,7 +1,7 @@
 //! What goes over a connection: a hello each way, and then records.
 
 use super::Misbehaved;
-use crate::space::SpaceId;
+use crate::space::{SpaceId, World};
 use std::fmt;
 
 /// How long a hello is.
@@ -11,7 +11,7 @@ use std::fmt;
 /// # use masttomato::SpaceId;
 /// # let [one, two] = [1, 2].map(|number| SpaceId::new(number).expect("1 to 32"));
 /// # let world = World::named("shop");
-/// # let hello = Hello { space: one, spaces: two, world, life: Life(7), refused: None };
+/// # let hello = Hello { space: one, spaces: two, world, life: Life::only(7), refused: None };
 /// assert_eq!(hello.to_bytes().len(), HELLO);
 /// # Ok::<(), Why>(())
 /// ```
@@ -30,10 +30,12 @@ const FRAME_HEADER: usize = 32;
 pub const LONGEST_BODY: usize = 64 * 16_416;
 
 const MARK: [u8; 4] = *b"NOBN";
-// The second, since frames have version 2: an end of the first would understand none of them.
-const VERSION: u16 = 2;
+// The third, since a process may come back under its number: an end of the second would refuse it, and take its frames for
+// those of the life before.
+const VERSION: u16 = 3;
 
-/// A random number of one life of a process: a process that starts again has another one. See [`Hello`].
+/// Which life of a space a process has. One that keeps [bounds](crate::space::Bounds) counts them, and comes back under its
+/// number; a number without bounds has one life alone. See [`Hello`].
 ///
 /// ```
 /// # use masttomato::engine::*;
@@ -42,38 +44,58 @@ const VERSION: u16 = 2;
 /// # let [one, two] = [1, 2].map(|number| SpaceId::new(number).expect("1 to 32"));
 /// # let now = Duration::ZERO;
 /// # let mut engine = Engine::new(Settings::new(one, two), now)?;
-/// engine.connected(two, Life(12), now)?;
+/// engine.connected(two, Life { number: 1, process: 12 }, now)?;
 /// engine.disconnected(two, now);
-/// engine.connected(two, Life(12), now)?;                       // the same process, over another connection
-/// assert_eq!(engine.connected(two, Life(13), now), Err(Why::NumberUsed));
+/// engine.connected(two, Life { number: 1, process: 12 }, now)?;         // the same one, over another connection
+/// engine.connected(two, Life { number: 2, process: 13 }, now)?;         // the next one
+/// assert_eq!(engine.session(two), Session::Closed(masttomato::Reason::PeerClosed));
+/// let older = engine.connected(two, Life { number: 1, process: 12 }, now);
+/// assert_eq!(older, Err(Why::OldLife));
 /// # Ok::<(), Box<dyn std::error::Error>>(())
 /// ```
 #[derive(Clone, Copy, Debug, PartialEq, Eq, Hash)]
-pub struct Life(pub u64);
+pub struct Life {
+    /// Its number among the lives of its space, from 1 on, and 0 where no other follows it.
+    pub number: u64,
+    /// A random number of its process.
+    pub process: u64,
+}
 
-/// The name of a world, 16 bytes. Two worlds never mix.
-///
-/// ```
-/// # use masttomato::engine::*;
-/// # use masttomato::SpaceId;
-/// assert_eq!(World::default(), World::named(""));
-/// ```
-#[derive(Clone, Copy, Debug, Default, PartialEq, Eq, Hash)]
-pub struct World(pub [u8; 16]);
-
-impl World {
-    /// The world of a name, of which the first 16 bytes count.
+impl Life {
+    /// The life of a process that keeps no bounds: the only one of its number.
     ///
     /// ```
-    /// # use masttomato::engine::World;
-    /// assert_ne!(World::named("shop"), World::named("bank"));
+    /// # use masttomato::engine::Life;
+    /// assert_eq!(Life::only(12), Life { number: 0, process: 12 });
     /// ```
-    pub fn named(name: &str) -> World {
-        let mut bytes = [0; 16];
-        for (place, byte) in bytes.iter_mut().zip(name.bytes()) {
-            *place = byte;
+    pub const fn only(process: u64) -> Life {
+        Life { number: 0, process }
+    }
+
+    /// Whether this life comes after one that is known, and isn't that one.
+    ///
+    /// ```
+    /// # use masttomato::engine::{Life, Why};
+    /// let second = Life { number: 2, process: 12 };
+    /// assert_eq!(second.follows(second), Ok(false));
+    /// assert_eq!(Life { number: 3, process: 13 }.follows(second), Ok(true));
+    /// assert_eq!(Life { number: 1, process: 11 }.follows(second), Err(Why::OldLife));
+    /// // Two processes at once have the same bounds, or an older copy of them was put back.
+    /// assert_eq!(Life { number: 2, process: 13 }.follows(second), Err(Why::NumberUsed));
+    /// assert_eq!(second.follows(Life::only(11)), Err(Why::NumberUsed));
+    /// ```
+    ///
+    /// # Errors
+    /// `NumberUsed` where both are the first of their processes under this number, or either has no number;
+    /// `OldLife` where this one is before the one that is known.
+    pub fn follows(self, known: Life) -> Result<bool, Why> {
+        match () {
+            () if self == known => Ok(false),
+            () if self.number == known.number || known.number == 0 => Err(Why::NumberUsed),
+            () if self.number == 0 => Err(Why::NumberUsed),
+            () if self.number < known.number => Err(Why::OldLife),
+            () => Ok(true),
         }
-        World(bytes)
     }
 }
 
@@ -84,7 +106,7 @@ impl World {
 /// # use masttomato::SpaceId;
 /// # let [one, two] = [1, 2].map(|number| SpaceId::new(number).expect("1 to 32"));
 /// # let world = World::named("shop");
-/// # let hello = Hello { space: one, spaces: two, world, life: Life(7), refused: None };
+/// # let hello = Hello { space: one, spaces: two, world, life: Life::only(7), refused: None };
 /// let other = Hello { space: two, world: World::named("bank"), ..hello };
 /// let why = hello.judge(&other).unwrap_err();
 /// assert_eq!((why, why.to_string()), (Why::OtherWorld, "it is of another world".into()));
@@ -93,7 +115,7 @@ impl World {
 #[derive(Clone, Copy, Debug, PartialEq, Eq, Hash)]
 #[non_exhaustive]
 pub enum Why {
-    /// It is no hello, or one of another version.
+    /// It is no hello.
     NoHello,
     /// It is from another world.
     OtherWorld,
@@ -101,29 +123,108 @@ pub enum Why {
     OtherSpaces,
     /// It says a number that isn't expected there, or this node's own.
     OtherNumber,
-    /// Another life has used that number: a process that starts again takes the next one.
+    /// Another process has used that number, and this one doesn't come back under it: it has no bounds, or not that
+    /// one's.
     NumberUsed,
+    /// A later life of that number is known.
+    OldLife,
+    /// It is a hello of another version.
+    OtherVersion,
+    /// It doesn't show who it is, where nodes show certificates.
+    Certificate(Flaw),
 }
 
-impl Why {
-    const ALL: [Why; 5] =
-        [Why::NoHello, Why::OtherWorld, Why::OtherSpaces, Why::OtherNumber, Why::NumberUsed];
+/// What is wrong with the certificate of who is at the other end of a connection, or with how it is shown: see
+/// [`Why::Certificate`].
+///
+/// ```
+/// use masttomato::Why;
+/// use masttomato::engine::Flaw;
+///
+/// let why = Why::Certificate(Flaw::Expired);
+/// assert_eq!(why.to_string(), "its certificate has expired");
+/// ```
+#[derive(Clone, Copy, Debug, PartialEq, Eq, Hash)]
+#[non_exhaustive]
+pub enum Flaw {
+    /// It doesn't speak TLS 1.3.
+    NoTls,
+    /// It shows none.
+    Missing,
+    /// Another authority than this world's has signed it, or nobody but itself.
+    OtherAuthority,
+    /// It has expired.
+    Expired,
+    /// It isn't valid yet.
+    NotYet,
+    /// It doesn't name the space that it is shown for, or is of another world.
+    OtherName,
+    /// It is no certificate of a node: an authority's own, or for other uses, or broken.
+    Unfit,
+    /// The other end refuses this node's, and says in its own report why.
+    Refused,
+    /// It took too long to show it.
+    Late,
+    /// The connection broke before.
+    Broken,
+}
 
+impl fmt::Display for Flaw {
+    fn fmt(&self, f: &mut fmt::Formatter<'_>) -> fmt::Result {
+        f.write_str(match self {
+            Flaw::NoTls => "it doesn't speak TLS 1.3",
+            Flaw::Missing => "it shows no certificate",
+            Flaw::OtherAuthority => "its certificate isn't signed by this world's authority",
+            Flaw::Expired => "its certificate has expired",
+            Flaw::NotYet => "its certificate isn't valid yet",
+            Flaw::OtherName => "its certificate doesn't name this space of this world",
+            Flaw::Unfit => {
+                "its certificate is none of a node: an authority's own, or for other uses"
+            }
+            Flaw::Refused => "it doesn't take this node's certificate; its own report says why",
+            Flaw::Late => "it didn't show in time who it is",
+            Flaw::Broken => "it broke the connection off before it had shown who it is",
+        })
+    }
+}
+
+impl std::error::Error for Flaw {}
+
+impl Why {
+    const ALL: [Why; 8] = [
+        Why::NoHello,
+        Why::OtherWorld,
+        Why::OtherSpaces,
+        Why::OtherNumber,
+        Why::NumberUsed,
+        Why::OldLife,
+        Why::OtherVersion,
+        Why::Certificate(Flaw::OtherName),
+    ];
+
+    // A hello says of certificates alone that it isn't the right one.
     fn number(self) -> u8 {
-        Why::ALL.iter().position(|why| *why == self).map_or(0, |place| place as u8 + 1)
+        let said = match self {
+            Why::Certificate(_) => Why::Certificate(Flaw::OtherName),
+            why => why,
+        };
+        Why::ALL.iter().position(|why| *why == said).map_or(0, |place| place as u8 + 1)
     }
 }
 
 impl fmt::Display for Why {
     fn fmt(&self, f: &mut fmt::Formatter<'_>) -> fmt::Result {
         f.write_str(match self {
-            Why::NoHello => "it said no hello of this version",
+            Why::Certificate(flaw) => return flaw.fmt(f),
+            Why::NoHello => "it said no hello",
             Why::OtherWorld => "it is of another world",
             Why::OtherSpaces => "it counts another number of spaces",
             Why::OtherNumber => "it has a number that isn't expected there",
             Why::NumberUsed => {
-                "its number was used by an earlier life: a process that starts again takes the next number"
+                "its number was used by an earlier life: a process that starts again takes the next number, or keeps bounds and comes back"
             }
+            Why::OldLife => "a later life of its number is known: an older process, or an older copy of its bounds",
+            Why::OtherVersion => "it says hello in another version: both must be of releases whose hellos have version 3",
         })
     }
 }
@@ -139,8 +240,8 @@ impl std::error::Error for Why {}
 /// # fn main() -> Result<(), Box<dyn std::error::Error>> {
 /// let [one, two] = [SpaceId::try_from(1)?, SpaceId::try_from(2)?];
 /// let world = World::named("shop");
-/// let own = Hello { space: one, spaces: two, world, life: Life(7), refused: None };
-/// let came = Hello { space: two, life: Life(8), ..own }.to_bytes();
+/// let own = Hello { space: one, spaces: two, world, life: Life::only(7), refused: None };
+/// let came = Hello { space: two, life: Life::only(8), ..own }.to_bytes();
 /// let peer = Hello::from_bytes(&came)?;
 /// own.judge(&peer)?;
 /// assert_eq!(own.judge(&Hello { world: World::named("bank"), ..peer }), Err(Why::OtherWorld));
@@ -155,7 +256,7 @@ pub struct Hello {
     pub spaces: SpaceId,
     /// Which world it is of.
     pub world: World,
-    /// Which life of its process says it.
+    /// Which life says it.
     pub life: Life,
     /// Where it answers a hello that it refuses: why.
     pub refused: Option<Why>,
@@ -169,7 +270,7 @@ impl Hello {
     /// # use masttomato::SpaceId;
     /// # let [one, two] = [1, 2].map(|number| SpaceId::new(number).expect("1 to 32"));
     /// # let world = World::named("shop");
-    /// # let hello = Hello { space: one, spaces: two, world, life: Life(7), refused: None };
+    /// # let hello = Hello { space: one, spaces: two, world, life: Life::only(7), refused: None };
     /// assert!(hello.to_bytes().starts_with(b"NOBN"));
     /// # Ok::<(), Why>(())
     /// ```
@@ -183,7 +284,8 @@ impl Hello {
         put(8, &self.spaces.get().to_be_bytes());
         put(10, &[self.refused.map_or(0, Why::number)]);
         put(12, &self.world.0);
-        put(28, &self.life.0.to_be_bytes());
+        put(28, &self.life.process.to_be_bytes());
+        put(36, &self.life.number.to_be_bytes());
         bytes
     }
 
@@ -194,28 +296,35 @@ impl Hello {
     /// # use masttomato::SpaceId;
     /// # let [one, two] = [1, 2].map(|number| SpaceId::new(number).expect("1 to 32"));
     /// # let world = World::named("shop");
-    /// # let hello = Hello { space: one, spaces: two, world, life: Life(7), refused: None };
+    /// # let hello = Hello { space: one, spaces: two, world, life: Life::only(7), refused: None };
     /// assert_eq!(Hello::from_bytes(&hello.to_bytes())?, hello);
     /// assert_eq!(Hello::from_bytes(&[0; HELLO]), Err(Why::NoHello));
     /// # Ok::<(), Why>(())
     /// ```
     ///
     /// # Errors
-    /// `NoHello` where they spell none.
+    /// `NoHello` where they spell none, `OtherVersion` where they spell one of another version.
     pub fn from_bytes(bytes: &[u8; HELLO]) -> Result<Hello, Why> {
         let u16_at = |place: usize| u16::from_be_bytes([bytes[place], bytes[place + 1]]);
-        let (space, spaces) = (SpaceId::new(u16_at(6)), SpaceId::new(u16_at(8)));
-        let (Some(space), Some(spaces)) = (space, spaces) else { return Err(Why::NoHello) };
-        let is_of_this_version = bytes[..4] == MARK && u16_at(4) == VERSION;
-        if !is_of_this_version || bytes[36..] != [0; 28] || bytes[10] > 5 || bytes[11] != 0 {
+        let u64_at = |place: usize| {
+            bytes[place..].first_chunk().map_or(0, |bytes| u64::from_be_bytes(*bytes))
+        };
+        if bytes[..4] != MARK {
             return Err(Why::NoHello);
         }
-        let (mut world, mut life) = ([0; 16], [0; 8]);
-        world.copy_from_slice(&bytes[12..28]);
-        life.copy_from_slice(&bytes[28..36]);
+        if u16_at(4) != VERSION {
+            return Err(Why::OtherVersion);
+        }
+        let (space, spaces) = (SpaceId::new(u16_at(6)), SpaceId::new(u16_at(8)));
+        let (Some(space), Some(spaces)) = (space, spaces) else { return Err(Why::NoHello) };
+        let is_refusal = usize::from(bytes[10]) <= Why::ALL.len();
+        if bytes[44..] != [0; 20] || !is_refusal || bytes[11] != 0 {
+            return Err(Why::NoHello);
+        }
+        let world = World(*bytes[12..].first_chunk().ok_or(Why::NoHello)?);
         let refused = usize::from(bytes[10]).checked_sub(1).map(|place| Why::ALL[place]);
-        let life = Life(u64::from_be_bytes(life));
-        Ok(Hello { space, spaces, world: World(world), life, refused })
+        let life = Life { number: u64_at(36), process: u64_at(28) };
+        Ok(Hello { space, spaces, world, life, refused })
     }
 
     /// Whether a peer's hello goes with this one.
@@ -225,8 +334,8 @@ impl Hello {
     /// # use masttomato::SpaceId;
     /// # let [one, two] = [1, 2].map(|number| SpaceId::new(number).expect("1 to 32"));
     /// # let world = World::named("shop");
-    /// # let hello = Hello { space: one, spaces: two, world, life: Life(7), refused: None };
-    /// hello.judge(&Hello { space: two, life: Life(8), ..hello })?;
+    /// # let hello = Hello { space: one, spaces: two, world, life: Life::only(7), refused: None };
+    /// hello.judge(&Hello { space: two, life: Life::only(8), ..hello })?;
     /// assert_eq!(hello.judge(&hello), Err(Why::OtherNumber));
     /// # Ok::<(), Why>(())
     /// ```
@@ -340,8 +449,12 @@ impl Seen<'_> {
     /// What kind of item it carries.
     pub(crate) fn item(&self) -> ItemKind {
         match self.bytes.get(FRAME_HEADER) {
-            Some(1 | 2) if self.bytes.len() < FRAME_HEADER + 9 => ItemKind::Other,
-            Some(1) => ItemKind::Call(self.u64_at(FRAME_HEADER + 1)),
+            Some(1) if self.bytes.len() < FRAME_HEADER + 17 => ItemKind::Other,
+            Some(2) if self.bytes.len() < FRAME_HEADER + 9 => ItemKind::Other,
+            Some(1) => {
+                let call = self.u64_at(FRAME_HEADER + 1);
+                ItemKind::Call { call, target: self.u64_at(FRAME_HEADER + 9) }
+            }
             Some(2) => ItemKind::Reply(self.u64_at(FRAME_HEADER + 1)),
             _ => ItemKind::Other,
         }
@@ -356,8 +469,11 @@ impl Seen<'_> {
 /// What an item is, as far as an engine must know.
 #[derive(Clone, Copy, Debug, PartialEq, Eq)]
 pub(crate) enum ItemKind {
-    /// The call of this number among those of its sender.
-    Call(u64),
+    /// The call of this number among those of its sender, of the object of this index.
+    Call {
+        call: u64,
+        target: u64,
+    },
     /// The reply to the call of this number.
     Reply(u64),
     Other,
@@ -410,15 +526,16 @@ mod tests {
             space: id(3),
             spaces: id(8),
             world: World::named("a world of tests"),
-            life: Life(77),
-            refused: Some(Why::NumberUsed),
+            life: Life { number: 7, process: 77 },
+            refused: Some(Why::OtherVersion),
         };
         let bytes = said.to_bytes();
         assert_eq!(Hello::from_bytes(&bytes), Ok(said));
-        for place in (0..6).chain([7, 8, 10, 11, 40]) {
+        for place in (0..6).chain([7, 8, 10, 11, 44, 63]) {
             let mut other = bytes;
             other[place] ^= 0x60;
-            assert_eq!(Hello::from_bytes(&other), Err(Why::NoHello), "{place}");
+            let why = if [4, 5].contains(&place) { Why::OtherVersion } else { Why::NoHello };
+            assert_eq!(Hello::from_bytes(&other), Err(why), "{place}");
         }
     }
 

@@ -1,20 +1,21 @@
 //! Calls that are waited for, or not.
 
 use super::cancel::Cancel;
+use super::desks::Waits;
 use super::driver::driving;
 use super::shared::{Command, Shared};
 use super::spans::CallSpan;
 use crate::engine::{Ticket, Why};
 use crate::interface::Packed;
 use crate::pass::Pass;
-use crate::space::{CallNo, Reason, SpaceId, Value};
+use crate::space::{CallNo, Reason, Reference, SpaceId, Value};
 use std::fmt;
 use std::future::Future;
 use std::hint;
 use std::marker::PhantomData;
 use std::pin::Pin;
 use std::sync::atomic::{AtomicBool, AtomicU64, Ordering};
-use std::sync::{Arc, Condvar, Mutex, MutexGuard};
+use std::sync::{Arc, Condvar, Mutex, MutexGuard, OnceLock};
 use std::task::{Context, Poll, Waker};
 use std::time::{Duration, Instant};
 
@@ -109,6 +110,9 @@ pub enum CallError {
     NoMethod,
     /// A reference among its arguments was lost, since its owner has gone.
     Lost,
+    /// It wasn't made: the bounds of the node's life can't be written, so it can have no number. See
+    /// [`Bounds`](crate::space::Bounds).
+    NotCovered,
     /// A reference among its arguments is another node's of this process.
     OtherNode,
     /// The method, or the node in its place, answered a fault.
@@ -137,6 +141,7 @@ impl fmt::Display for CallError {
             CallError::TimedOut => f.write_str("no reply came in time"),
             CallError::NoMethod => f.write_str("the object has no such method"),
             CallError::Lost => f.write_str("a reference among the arguments was lost"),
+            CallError::NotCovered => f.write_str("the bounds of the node's life can't be written"),
             CallError::OtherNode => {
                 f.write_str("a reference among the arguments is another node's")
             }
@@ -178,6 +183,8 @@ pub(crate) struct CallState {
     // Of a call of an own object: whether it was cancelled.
     cancel: Cancel,
     span: CallSpan,
+    // What is called, and by which method, once its node knows.
+    aim: OnceLock<(Reference, u16)>,
 }
 
 impl CallState {
@@ -209,8 +216,15 @@ impl CallState {
         self.span.is_made(number);
     }
 
-    pub(crate) fn span(&self) -> &CallSpan {
-        &self.span
+    /// What is called.
+    pub(crate) fn calls(&self, target: Reference, method: u16) {
+        self.span.calls(target, method);
+        // A name that is looked up in another way is still the same call.
+        let _known = self.aim.set((target, method));
+    }
+
+    pub(crate) fn aim(&self) -> Option<(Reference, u16)> {
+        self.aim.get().copied()
     }
 }
 
@@ -402,6 +416,7 @@ impl<T: Pass> Call<T> {
     // Looks, since a reply comes soon or late; then sleeps.
     fn sleep_until(&self, end: Option<Instant>) -> Option<Completed> {
         self.look();
+        let _waits = Waits::until(&self.state);
         let mut slot = self.state.slot();
         loop {
             if let Some(completed) = slot.completed.take() {

@@ -9,15 +9,17 @@ use super::shared::{Command, Shared};
 use super::spans::{self, ServeSpan};
 use super::{Changes, Context, NodeError, Run};
 use crate::engine::{
-    Answered, BAD_ARGUMENTS, CANCELLED, Engine, LOST, PANICKED, Report, Session, TOO_LARGE, Ticket,
-    fault_value,
+    Answered, BAD_ARGUMENTS, CANCELLED, Engine, GREET, LOST, PANICKED, Report, Running, Session,
+    TOO_LARGE, Ticket, fault_value,
 };
 use crate::interface::{Arguments, Description, Exported, Packed, Served};
 use crate::numbers::ByNumber;
-use crate::space::{CallNo, Job, JobNo, Outcome, Reference, SpaceId, Status, Value};
+use crate::space::{
+    CallNo, Job, JobNo, Outcome, Reference, Refusal, SpaceError, SpaceId, Status, Value,
+};
 use std::collections::{HashMap, VecDeque};
 use std::panic::{AssertUnwindSafe, catch_unwind};
-use std::sync::{Arc, mpsc};
+use std::sync::{Arc, Weak, mpsc};
 use std::task::Waker;
 use std::time::{Duration, Instant};
 
@@ -53,6 +55,8 @@ enum Place {
 
 struct Object {
     place: Place,
+    /// Where a method runs: which, and since when.
+    running: Option<(Running, Instant)>,
     run: Run,
     line: VecDeque<Work>,
     description: Description,
@@ -165,11 +169,17 @@ impl Task {
     }
 
     fn span(&self) -> ServeSpan {
+        let Running { object, method, caller, call, .. } = self.running();
+        ServeSpan::new(caller, call, object, method)
+    }
+
+    /// What is to run.
+    pub(crate) fn running(&self) -> Running {
         let call = match &self.end {
             End::Job { caller: (_, call), .. } => Some(*call),
             End::Local(_) => None,
         };
-        ServeSpan::new(self.context.caller(), call, self.index, self.method)
+        Running::new(self.index, self.method, self.context.caller(), call)
     }
 }
 
@@ -197,12 +207,32 @@ struct OpenCall {
     purpose: Purpose,
 }
 
+/// The holds of one peer's objects, some of which may be gone.
+#[derive(Default)]
+struct Holds {
+    all: Vec<Weak<Hold>>,
+    most: usize,
+}
+
+impl Holds {
+    // Keeps one more, and forgets those that are gone where they are many.
+    fn keep(&mut self, hold: &Arc<Hold>) {
+        if self.all.len() > self.most {
+            self.all.retain(|hold| hold.strong_count() > 0);
+            self.most = 2 * self.all.len() + 64;
+        }
+        self.all.push(Arc::downgrade(hold));
+    }
+}
+
 /// What is on a node's own thread.
 pub(crate) struct Core {
     pub(crate) engine: Engine,
     shared: Arc<Shared>,
     objects: ByNumber<u64, Object>,
     names: HashMap<Vec<u8>, Arc<Hold>>,
+    // Of what is held of others' objects, whose.
+    others: HashMap<SpaceId, Holds>,
     calls: ByNumber<Ticket, OpenCall>,
     // Calls of others that wait in an object's line, or run.
     cancels: HashMap<Caller, Arc<Cancel>>,
@@ -233,6 +263,7 @@ impl Core {
             shared,
             objects: ByNumber::default(),
             names: HashMap::new(),
+            others: HashMap::new(),
             calls: ByNumber::default(),
             cancels: HashMap::new(),
             steps: VecDeque::new(),
@@ -285,10 +316,14 @@ impl Core {
         object: Box<dyn Exported>,
         run: Run,
     ) -> Result<Reference, NodeError> {
-        let reference = self.engine.export().map_err(|_| NodeError::Full)?;
+        let reference = self.engine.export().map_err(|error| match error {
+            SpaceError::Refused(Refusal::Limit) => NodeError::Full,
+            error => NodeError::Space(error),
+        })?;
         let description = object.describe();
         let place = Place::Here(object);
-        let object = Object { place, run, line: VecDeque::new(), description };
+        let (running, line) = (None, VecDeque::new());
+        let object = Object { place, running, run, line, description };
         self.objects.insert(reference.index, object);
         Ok(reference)
     }
@@ -314,7 +349,12 @@ impl Core {
 
     /// How the node stands.
     pub(crate) fn report(&mut self) -> Report {
-        self.engine.report(self.started.elapsed())
+        let mut report = self.engine.report(self.started.elapsed());
+        let all = self.objects.values().filter_map(|object| object.running);
+        let longest = all.min_by_key(|(_, since)| *since);
+        report.longest = longest.map(|(running, since)| (running, since.elapsed()));
+        report.threads = self.shared.desks().report();
+        report
     }
 
     pub(crate) fn watch(&mut self) -> Changes {
@@ -337,7 +377,7 @@ impl Core {
         purpose: Purpose,
     ) {
         let owner = target.reference().owner;
-        state.span().calls(target.reference(), method);
+        state.calls(target.reference(), method);
         let is_mine = |hold: &Arc<Hold>| Arc::ptr_eq(hold.shared(), &self.shared);
         if !packed.holds.iter().all(is_mine) {
             return self.complete(&state, Err(CallError::OtherNode));
@@ -477,6 +517,8 @@ impl Core {
                 self.cancelled(client, CallNo::new(*number as u64));
                 Outcome::Answer(Value::Unit)
             }
+            // A life began, or goes on in another session: there is nothing to say to it.
+            (GREET, _) => Outcome::Answer(Value::Unit),
             (GET | LOOKUP | DESCRIBE | CANCEL, _) => fault(ARGUMENT),
             _ => Outcome::NoMethod,
         }
@@ -507,6 +549,25 @@ impl Core {
             self.watchers.retain(|watcher| watcher.send(change).is_ok());
         }
         self.silent.extend(turn.silent);
+        turn.renewed.into_iter().for_each(|peer| self.lose_all(peer));
+    }
+
+    // A peer began a new life: what is held of the one before is lost, and given back at once.
+    fn lose_all(&mut self, peer: SpaceId) {
+        let holds = self.others.remove(&peer).unwrap_or_default();
+        for hold in holds.all.iter().filter_map(Weak::upgrade) {
+            if hold.lose() {
+                self.engine.release(hold.reference());
+            }
+        }
+    }
+
+    // A hold of another space's object is in the hand.
+    fn is_held(&mut self, hold: &Arc<Hold>) {
+        let owner = hold.reference().owner;
+        if owner != self.engine.id() {
+            self.others.entry(owner).or_default().keep(hold);
+        }
     }
 
     fn answered(&mut self, ticket: Ticket, answered: Answered) {
@@ -518,6 +579,7 @@ impl Core {
             Answered::TooLarge => Err(CallError::TooLarge),
             Answered::Lost => Err(CallError::Lost),
             Answered::Busy => Err(CallError::Busy),
+            Answered::NotCovered => Err(CallError::NotCovered),
         };
         let Some(OpenCall { state, purpose, .. }) = self.calls.remove(&ticket) else { return };
         let (status, packed) = match packed {
@@ -541,7 +603,9 @@ impl Core {
             if holds.iter().any(|hold| hold.reference() == reference) {
                 self.engine.release(reference);
             } else {
-                holds.push(Hold::held(&self.shared, reference));
+                let hold = Hold::held(&self.shared, reference);
+                self.is_held(&hold);
+                holds.push(hold);
             }
         }
         Packed { value, holds }
@@ -615,6 +679,9 @@ impl Core {
     // A method begins, where it is to run.
     fn begin(&mut self, task: Task, run: Run) {
         self.running += 1;
+        if let Some(object) = self.objects.get_mut(&task.index) {
+            object.running = Some((task.running(), Instant::now()));
+        }
         let pool = self.pool.clone().filter(|_| run == Run::Pool);
         if !task.object.is_async(task.method) {
             return match pool {
@@ -643,6 +710,7 @@ impl Core {
         self.running -= 1;
         if let Some(slot) = self.objects.get_mut(&index) {
             slot.place = object.map_or(Place::Broken, Place::Here);
+            slot.running = None;
         }
         self.end(served, loans, end);
         self.start(index);
@@ -688,7 +756,11 @@ impl Core {
         drop(holds);
         for loan in loans {
             let is_kept = Arc::strong_count(&loan) > 1;
-            loan.end_loan(is_kept && self.engine.hold(loan.reference()).is_ok());
+            let is_held = is_kept && self.engine.hold(loan.reference()).is_ok();
+            loan.end_loan(is_held);
+            if is_held {
+                self.is_held(&loan);
+            }
         }
         self.engine.finish(job, outcome);
     }

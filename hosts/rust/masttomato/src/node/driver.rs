@@ -1,8 +1,10 @@
 //! What turns a node: on a thread of its own, or on the thread of whoever waits.
 
 use super::core::{Core, Step};
+use super::desks::Desk;
 use super::net::Net;
 use super::shared::{Command, RESTS, Shared};
+use crate::engine::Doing;
 use std::cell::{Cell, RefCell};
 use std::hint;
 use std::panic::{AssertUnwindSafe, catch_unwind};
@@ -38,10 +40,12 @@ pub(crate) struct Driver {
     started: Instant,
     rests: Cell<u32>,
     commands: RefCell<Vec<Command>>,
+    desk: Arc<Desk>,
 }
 
 impl Driver {
     pub(crate) fn new(core: Core, net: Net, shared: Arc<Shared>, started: Instant) -> Rc<Driver> {
+        let desk = shared.desks().open(format!("masttomato-{}", shared.id()));
         let driver = Rc::new(Driver {
             core: RefCell::new(core),
             net: RefCell::new(net),
@@ -49,6 +53,7 @@ impl Driver {
             started,
             rests: Cell::new(0),
             commands: RefCell::default(),
+            desk,
         });
         DRIVERS.with(|drivers| {
             let mut drivers = drivers.borrow_mut();
@@ -111,7 +116,9 @@ impl Driver {
     fn make(&self, step: Step) {
         match step {
             Step::Run(task) => {
+                self.desk.runs(task.running());
                 let done = task.run();
+                self.desk.does(Doing::Works);
                 self.core.borrow_mut().done(done);
             }
             Step::Turn(method) => method.turn(),
@@ -157,8 +164,10 @@ impl Driver {
         let wanted = wanted.into_iter().chain(self.net.borrow().next()).min();
         let left = wanted.map_or(LONGEST_SLEEP, |time| time.saturating_sub(now));
         if self.shared.may_sleep() {
+            self.desk.does(Doing::Rests);
             self.net.borrow_mut().sleep(left.min(limit).min(LONGEST_SLEEP));
             self.shared.awake();
+            self.desk.does(Doing::Works);
         }
     }
 
@@ -212,6 +221,8 @@ impl Driver {
         self.net.borrow_mut().close();
         self.leave();
         drop(commands);
+        // Where that can't be written the next life begins as after a death.
+        let _written = self.core.borrow_mut().engine.end_life();
         self.shared.set_stopped();
         (still_running, told)
     }

@@ -57,6 +57,11 @@ impl Hold {
         self.state.store(if is_held { HELD } else { VOID }, Ordering::Release);
     }
 
+    /// What was in the hand is lost: whether it was, and is to be given back to the space now.
+    pub(crate) fn lose(&self) -> bool {
+        self.state.compare_exchange(HELD, VOID, Ordering::AcqRel, Ordering::Acquire).is_ok()
+    }
+
     /// Whether it was lost: it is counted, and neither on loan nor in the hand.
     pub(crate) fn is_lost(&self) -> bool {
         self.reference.is_counted() && self.state.load(Ordering::Acquire) == VOID
@@ -149,6 +154,26 @@ impl<I: ?Sized> Remote<I> {
     /// ```
     pub fn is_mine(&self) -> bool {
         self.owner() == self.hold.shared.id()
+    }
+
+    /// Whether it is lost for good, since the process of its owner died and another life of it began: calls answer
+    /// [`CallError::Down`](crate::CallError::Down), and the object that is wanted is looked up by its name again. A session that
+    /// closes otherwise may be opened anew, and what closed with it is lost, too, but isn't said so here.
+    ///
+    /// ```
+    /// # use masttomato::*;
+    /// # #[interface]
+    /// # pub trait Bell { fn ring(&mut self) -> String; }
+    /// # struct Brass;
+    /// # impl Bell for Brass { fn ring(&mut self) -> String { "ding".into() } }
+    /// # let one = SpaceId::new(1).expect("1 to 32");
+    /// # let node = Node::builder(one, Peers::none()).start()?;
+    /// let bell = node.export::<dyn Bell>(Box::new(Brass))?;
+    /// assert!(!bell.is_lost());
+    /// # Ok::<(), Box<dyn std::error::Error>>(())
+    /// ```
+    pub fn is_lost(&self) -> bool {
+        self.hold.is_lost()
     }
 
     /// The same reference for another interface, where its object has that: its owner is asked.

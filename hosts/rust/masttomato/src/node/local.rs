@@ -3,6 +3,7 @@
 use super::call::Call;
 use super::driver::Driver;
 use super::hold::Remote;
+use super::named::Named;
 use super::shared::Shared;
 use super::{Changes, NodeError, Run, Shutdown};
 use crate::engine::{Counts, Report, Session};
@@ -175,6 +176,25 @@ impl LocalNode {
     /// ```
     pub fn lookup<I: Interface + ?Sized>(&self, peer: SpaceId, name: &str) -> Call<Remote<I>> {
         super::lookup(&self.shared, peer, name)
+    }
+
+    /// An object that a peer has under a name, which is looked up again where it was lost.
+    ///
+    /// ```
+    /// # use masttomato::*;
+    /// # #[interface]
+    /// # pub trait Bell { fn ring(&mut self) -> String; }
+    /// # struct Brass;
+    /// # impl Bell for Brass { fn ring(&mut self) -> String { "ding".into() } }
+    /// # let one = SpaceId::new(1).expect("1 to 32");
+    /// # let node = Node::builder(one, Peers::none()).start_local()?;
+    /// # node.bind("bell", &node.export::<dyn Bell>(Box::new(Brass))?)?;
+    /// let bell = node.named::<dyn Bell>(one, "bell");
+    /// assert_eq!(bell.get()?.ring().wait()?, "ding");
+    /// # Ok::<(), Box<dyn std::error::Error>>(())
+    /// ```
+    pub fn named<I: Interface + ?Sized>(&self, peer: SpaceId, name: &str) -> Named<I> {
+        Named::new(&self.shared, peer, name)
     }
 
     /// How the session with a peer stands.

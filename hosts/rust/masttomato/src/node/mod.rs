@@ -3,32 +3,47 @@
 mod call;
 mod cancel;
 mod core;
+mod desks;
+#[cfg_attr(not(feature = "tls"), allow(dead_code))]
+mod door;
 mod driver;
 mod hold;
 mod later;
 mod local;
+mod named;
 mod net;
 mod peers;
 mod pool;
+#[cfg_attr(not(feature = "tls"), allow(dead_code))]
+mod seal;
 mod shared;
 mod spans;
+#[cfg(feature = "tls")]
+mod tls;
 
 pub use self::call::{Call, CallError, Fault};
 pub use self::cancel::Cancelled;
 pub use self::hold::{Hold, Remote};
 pub use self::later::Spawn;
 pub use self::local::LocalNode;
+pub use self::named::Named;
 pub use self::peers::{BadPeers, Peers};
 pub use self::shared::Shared;
+#[cfg(feature = "tls")]
+pub use self::tls::{BadIdentity, Identity};
 
 use self::core::{Core, Heard};
+use self::door::Door;
 use self::driver::{Driver, driving};
 use self::net::{Net, WAKER};
 use self::pool::Pool;
+use self::seal::Sealer;
 use self::shared::Command;
-use crate::engine::{Counts, Engine, Hello, Life, Report, Session, Settings, TraceSink, World};
+use crate::engine::{
+    Counts, Engine, Hello, Life, Report, Session, Settings, ThreadReport, TraceSink, World,
+};
 use crate::interface::{Description, Interface};
-use crate::space::{SegmentSize, SpaceError, SpaceId};
+use crate::space::{BirthError, Bounds, BoundsError, SegmentSize, SpaceError, SpaceId};
 use mio::net::TcpListener;
 use mio::{Poll, Waker};
 use std::fmt;
@@ -79,6 +94,9 @@ pub enum Run {
 pub enum NodeError {
     /// The addresses aren't this machine's own, and without TLS `Builder::insecure` must allow that.
     Insecure,
+    /// The node's certificate isn't one that others would let it in by.
+    #[cfg(feature = "tls")]
+    Identity(BadIdentity),
     /// There is no memory for the space, or it refuses what it was asked.
     Space(SpaceError),
     /// The number of spaces, or the node's own number, doesn't fit the others.
@@ -89,6 +107,10 @@ pub enum NodeError {
     BadName,
     /// The reference is another node's of this process.
     OtherNode,
+    /// The bounds of its life are those of another world, space or number of spaces.
+    Bounds(BoundsError),
+    /// The numbers that its life is to begin behind are out of range.
+    Birth(BirthError),
     /// The node has stopped.
     Stopped,
     /// An address, a socket or a thread can't be had.
@@ -101,11 +123,15 @@ impl fmt::Display for NodeError {
             NodeError::Insecure => f.write_str(
                 "an address isn't this machine's own: without TLS, Builder::insecure must allow that",
             ),
+            #[cfg(feature = "tls")]
+            NodeError::Identity(error) => error.fmt(f),
             NodeError::Space(error) => error.fmt(f),
             NodeError::OtherSpaces => f.write_str("the node's number is above the last space"),
             NodeError::Full => f.write_str("there are as many objects as there may be"),
             NodeError::BadName => f.write_str("a name has 1 to 255 bytes, and there are 1,024 at most"),
             NodeError::OtherNode => f.write_str("the reference is another node's"),
+            NodeError::Bounds(error) => error.fmt(f),
+            NodeError::Birth(error) => error.fmt(f),
             NodeError::Stopped => f.write_str("the node has stopped"),
             NodeError::Io(error) => error.fmt(f),
         }
@@ -115,7 +141,11 @@ impl fmt::Display for NodeError {
 impl std::error::Error for NodeError {
     fn source(&self) -> Option<&(dyn std::error::Error + 'static)> {
         match self {
+            #[cfg(feature = "tls")]
+            NodeError::Identity(error) => Some(error),
             NodeError::Space(error) => Some(error),
+            NodeError::Bounds(error) => Some(error),
+            NodeError::Birth(error) => Some(error),
             NodeError::Io(error) => Some(error),
             _ => None,
         }
@@ -446,11 +476,14 @@ pub struct Builder {
     listen: Option<String>,
     world: World,
     is_insecure: bool,
+    #[cfg(feature = "tls")]
+    identity: Option<Identity>,
     workers: usize,
     looks: Duration,
     give_up_after: Duration,
     open_calls: usize,
     life: Life,
+    bounds: Option<Bounds>,
     sink: Option<Box<dyn TraceSink>>,
     chain: Option<(SegmentSize, Box<dyn TraceSink>)>,
     spawner: Option<Arc<dyn Spawn>>,
@@ -464,7 +497,7 @@ impl fmt::Debug for Builder {
 
 // A number that no other life has, as far as chance goes.
 fn random_life() -> Life {
-    Life(std::collections::hash_map::RandomState::new().build_hasher().finish())
+    Life::only(std::collections::hash_map::RandomState::new().build_hasher().finish())
 }
 
 impl Builder {
@@ -476,11 +509,14 @@ impl Builder {
             listen: None,
             world: World::default(),
             is_insecure: false,
+            #[cfg(feature = "tls")]
+            identity: None,
             workers: 4,
             looks: Duration::from_micros(50),
             give_up_after: Duration::from_secs(600),
             open_calls: 2_048,
             life: random_life(),
+            bounds: None,
             sink: None,
             chain: None,
             spawner: None,
@@ -530,7 +566,35 @@ impl Builder {
         self
     }
 
-    /// Allows addresses of other machines, though nothing is encrypted and nobody is asked who they are.
+    /// Each connection is sealed by TLS 1.3, and both ends show certificates: who comes is a space of this world, by the
+    /// word of its authority. A thread of its own shakes hands with who comes, 64 at once, for five seconds each.
+    ///
+    /// ```no_run
+    /// # use masttomato::{Identity, Node, Peers, SpaceId};
+    /// # fn main() -> Result<(), Box<dyn std::error::Error>> {
+    /// # let one = SpaceId::new(1).ok_or("1 to 32")?;
+    /// let identity = Identity::read("space-1.pem", "space-1.key", "authority.pem")?;
+    /// let node = Node::builder(one, Peers::none()).world("shop").tls(identity).listen("0.0.0.0:7001").start()?;
+    /// # Ok(())
+    /// # }
+    /// ```
+    #[cfg(feature = "tls")]
+    pub fn tls(mut self, identity: Identity) -> Builder {
+        self.identity = Some(identity);
+        self
+    }
+
+    // What seals connections, if anything does.
+    fn sealer(&mut self) -> Result<Option<Arc<dyn Sealer>>, NodeError> {
+        #[cfg(feature = "tls")]
+        if let Some(identity) = self.identity.take() {
+            let sealer = identity.sealer(self.space, self.world).map_err(NodeError::Identity)?;
+            return Ok(Some(sealer));
+        }
+        Ok(None)
+    }
+
+    /// Without TLS, allows addresses of other machines, though nothing is encrypted and nobody is asked who they are.
     ///
     /// ```
     /// # use masttomato::{Node, Peers, SpaceId};
@@ -643,9 +707,10 @@ impl Builder {
         self
     }
 
-    /// The space keeps a chain of segments of this size, which go to a sink as they are sealed, the last one when the node
-    /// ends: for `nobj check`, as traces. A node that is killed leaves out what wasn't sealed; [`record`](Builder::record)
-    /// leaves out nothing. Both may be asked for.
+    /// The space keeps a chain: its entries go to a sink, as a trace's do, and behind each segment of this size what the space
+    /// says of itself, the last time when the node ends. A node that is killed leaves its last segment without a seal:
+    /// [`Files::join_lives`](crate::engine::Files::join_lives) seals it, and
+    /// [`Files::join_chain`](crate::engine::Files::join_chain) leaves it out. A trace may be asked for beside.
     ///
     /// ```
     /// # use masttomato::space::SegmentSize;
@@ -653,7 +718,7 @@ impl Builder {
     /// # let [one, two] = [1, 2].map(|number| SpaceId::new(number).expect("1 to 32"));
     /// use masttomato::engine::Files;
     ///
-    /// let files = Files::of_segments("chains", one, 1 << 20);
+    /// let files = Files::new("chains", one, 1 << 20).for_chain();
     /// let node = Node::builder(one, Peers::none()).record_chain(SegmentSize::default(), files).start()?;
     /// # drop(node);
     /// # Ok::<(), Box<dyn std::error::Error>>(())
@@ -663,10 +728,38 @@ impl Builder {
         self
     }
 
+    /// The node has one life of its number: it begins behind these bounds, keeps them as long as it runs, and another process
+    /// may take its number when it has ended, or was killed. Peers that knew an earlier life close their sessions with that as soon
+    /// as they are connected to this one, and open them again; what they had of it is lost.
+    ///
+    /// ```
+    /// # use masttomato::space::{Bounds, World};
+    /// # use masttomato::{Node, Peers, SpaceId};
+    /// # use std::time::Duration;
+    /// # let path = std::env::temp_dir().join(format!("masttomato-builder-{}", std::process::id()));
+    /// # let [one, two] = [1, 2].map(|number| SpaceId::new(number).expect("1 to 32"));
+    /// let world = World::named("shop");
+    /// if !path.exists() {
+    ///     // By hand, or by who sets the machine up; never because a file isn't there that should be.
+    ///     Bounds::create(&path, world, one, two)?;
+    /// }
+    /// let bounds = Bounds::open(&path, world, one, two)?;
+    /// let node = Node::builder(one, Peers::none()).spaces(two).world("shop").bounds(bounds).start()?;
+    /// node.shutdown(Duration::from_secs(1));
+    /// assert_eq!(Bounds::open(&path, world, one, two)?.life(), 2);
+    /// # std::fs::remove_file(&path)?;
+    /// # Ok::<(), Box<dyn std::error::Error>>(())
+    /// ```
+    pub fn bounds(mut self, bounds: Bounds) -> Builder {
+        self.life.number = bounds.life();
+        self.bounds = Some(bounds);
+        self
+    }
+
     // Tests say which life it is.
     #[doc(hidden)]
     pub fn life(mut self, life: u64) -> Builder {
-        self.life = Life(life);
+        self.life.process = life;
         self
     }
 
@@ -733,11 +826,19 @@ impl Builder {
     }
 
     // All that can be made on any thread.
-    fn parts(self) -> Result<Parts, NodeError> {
+    fn parts(mut self) -> Result<Parts, NodeError> {
+        let sealer = self.sealer()?;
         let named = self.peers.last().map_or(self.space, |last| last.max(self.space));
         let spaces = self.spaces.unwrap_or(named);
         if self.space > spaces {
             return Err(NodeError::OtherSpaces);
+        }
+        let is_its = |bounds: &Bounds| {
+            let of = (bounds.world(), bounds.space(), bounds.spaces());
+            of == (self.world, self.space, spaces)
+        };
+        if !self.bounds.as_ref().is_none_or(is_its) {
+            return Err(NodeError::Bounds(BoundsError::OtherSpace));
         }
         let own = self.peers.lines().iter().find(|line| line.has(self.space));
         let listen = self.listen.clone().or(own.map(|line| line.address.clone()));
@@ -751,7 +852,8 @@ impl Builder {
             dialed.push((line.clone(), line.addresses()?));
         }
         let all = dialed.iter().flat_map(|(_, addresses)| addresses).chain(&listened);
-        if !self.is_insecure && all.into_iter().any(|address| !address.ip().is_loopback()) {
+        let is_inside = sealer.is_none() && !self.is_insecure;
+        if is_inside && all.into_iter().any(|address| !address.ip().is_loopback()) {
             return Err(NodeError::Insecure);
         }
         let listener = listened.first().map(|address| TcpListener::bind(*address)).transpose()?;
@@ -760,16 +862,21 @@ impl Builder {
         let waker = Waker::new(poll.registry(), WAKER)?;
         let (space, world, life) = (self.space, self.world, self.life);
         let hello = Hello { space, spaces, world, life, refused: None };
-        let net = Net::new(poll, listener, hello, dialed)?;
+        let shared = Shared::new(space, waker, self.looks);
+        let (listener, door) = match sealer {
+            Some(sealer) => (None, Some(Door::open(sealer, listener, shared.clone())?)),
+            None => (listener, None),
+        };
+        let net = Net::new(poll, listener, door, hello, dialed)?;
         let settings = Settings {
             space,
             spaces,
             give_up_after: self.give_up_after,
             open_calls: self.open_calls,
         };
-        let shared = Shared::new(space, waker, self.looks);
-        let (sink, chain, spawner) = (self.sink, self.chain, self.spawner);
-        Ok(Parts { shared, net, settings, sink, chain, spawner, address })
+        let (bounds, sink, chain) = (self.bounds, self.sink, self.chain);
+        let spawner = self.spawner;
+        Ok(Parts { shared, net, settings, bounds, sink, chain, spawner, address })
     }
 }
 
@@ -777,6 +884,7 @@ struct Parts {
     shared: Arc<Shared>,
     net: Net,
     settings: Settings,
+    bounds: Option<Bounds>,
     sink: Option<Box<dyn TraceSink>>,
     chain: Option<(SegmentSize, Box<dyn TraceSink>)>,
     spawner: Option<Arc<dyn Spawn>>,
@@ -786,7 +894,13 @@ struct Parts {
 impl Parts {
     fn driver(self, pool: Option<Arc<Pool>>) -> Result<std::rc::Rc<Driver>, NodeError> {
         let started = Instant::now();
-        let mut engine = Engine::new(self.settings, Duration::ZERO).map_err(NodeError::Space)?;
+        let (settings, now) = (self.settings, Duration::ZERO);
+        let mut engine = match self.bounds {
+            None => Engine::new(settings, now).map_err(NodeError::Space)?,
+            Some(bounds) => {
+                Engine::begin_behind(bounds, settings, now).map_err(NodeError::Birth)?
+            }
+        };
         if let Some(sink) = self.sink {
             engine.record(sink);
         }
@@ -1062,6 +1176,25 @@ impl Node {
         lookup(&self.inner.shared, peer, name)
     }
 
+    /// An object that a peer has under a name, which is looked up again where it was lost.
+    ///
+    /// ```
+    /// # use masttomato::*;
+    /// # #[interface]
+    /// # pub trait Bell { fn ring(&mut self) -> String; }
+    /// # struct Brass;
+    /// # impl Bell for Brass { fn ring(&mut self) -> String { "ding".into() } }
+    /// # let one = SpaceId::new(1).expect("1 to 32");
+    /// # let node = Node::builder(one, Peers::none()).start()?;
+    /// # node.bind("bell", &node.export::<dyn Bell>(Box::new(Brass))?)?;
+    /// let bell = node.named::<dyn Bell>(one, "bell");
+    /// assert_eq!(bell.get()?.ring().wait()?, "ding");
+    /// # Ok::<(), Box<dyn std::error::Error>>(())
+    /// ```
+    pub fn named<I: Interface + ?Sized>(&self, peer: SpaceId, name: &str) -> Named<I> {
+        Named::new(&self.inner.shared, peer, name)
+    }
+
     /// How the session with a peer stands; closed where the node has stopped.
     ///
     /// ```
@@ -1176,6 +1309,21 @@ impl Node {
     /// Where the node has stopped.
     pub fn report(&self) -> Result<Report, NodeError> {
         ask(&self.inner.shared, Core::report)
+    }
+
+    /// What each of its threads does, and for which call it waits. The node isn't asked for that: so it is answered also where
+    /// a method that runs inline never ends.
+    ///
+    /// ```
+    /// # use masttomato::{Node, Peers, SpaceId};
+    /// # let node = Node::builder(SpaceId::new(1).expect("1 to 32"), Peers::none()).workers(2).start()?;
+    /// for thread in node.threads() {
+    ///     println!("{thread}");           // masttomato-1-worker-2: rests, for 0.0 s
+    /// }
+    /// # Ok::<(), Box<dyn std::error::Error>>(())
+    /// ```
+    pub fn threads(&self) -> Vec<ThreadReport> {
+        self.inner.shared.desks().report()
     }
 
     /// What was counted; nothing where the node has stopped.

@@ -1,8 +1,10 @@
 //! A node's connections: who is connected to, who connects, and what goes over them.
 
+use super::door::{Came, Door};
 use super::peers::Line;
+use super::seal::{Wire, flaw_in, is_for_later};
 use super::spans;
-use crate::engine::{Engine, HELLO, Hello, Why};
+use crate::engine::{Engine, Flaw, HELLO, Hello, TurnedAway, Why};
 use crate::space::SpaceId;
 use mio::net::{TcpListener, TcpStream};
 use mio::{Events, Interest, Poll, Token};
@@ -27,7 +29,7 @@ const SHUNNED: Duration = Duration::from_secs(1);
 const PIECE: usize = 64 * 1024;
 
 struct Link {
-    stream: TcpStream,
+    wire: Wire,
     is_readable: bool,
     is_writable: bool,
     dial: Option<usize>,
@@ -35,7 +37,7 @@ struct Link {
 
 // A connection over which not both hellos went yet.
 struct Pending {
-    stream: TcpStream,
+    wire: Wire,
     dial: Option<usize>,
     came: Vec<u8>,
     said: usize,
@@ -58,6 +60,9 @@ pub(crate) struct Net {
     events: Events,
     listener: Option<TcpListener>,
     accepts: bool,
+    /// Where connections are sealed: who comes, or is connected to, comes by this.
+    door: Option<Door>,
+    turned_away: (u64, Option<TurnedAway>),
     hello: Hello,
     links: BTreeMap<SpaceId, Link>,
     tokens: HashMap<usize, SpaceId>,
@@ -73,6 +78,7 @@ impl Net {
     pub(crate) fn new(
         poll: Poll,
         mut listener: Option<TcpListener>,
+        door: Option<Door>,
         hello: Hello,
         dialed: Vec<(Line, Vec<SocketAddr>)>,
     ) -> io::Result<Net> {
@@ -92,6 +98,8 @@ impl Net {
             events: Events::with_capacity(128),
             listener,
             accepts: true,
+            door,
+            turned_away: (0, None),
             hello,
             links: BTreeMap::new(),
             tokens: HashMap::new(),
@@ -100,11 +108,13 @@ impl Net {
             shunned: HashMap::new(),
             next_token: FIRST,
             piece: vec![0; PIECE],
-            jitter: hello.life.0 | 1,
+            jitter: hello.life.process | 1,
         })
     }
 
     pub(crate) fn close(&mut self) {
+        self.links.values_mut().for_each(|link| link.wire.end());
+        self.door = None;
         self.links.clear();
         self.pending.clear();
         self.listener = None;
@@ -158,8 +168,11 @@ impl Net {
     /// Takes what came: whether anything did.
     pub(crate) fn read(&mut self, engine: &mut Engine, now: Duration) -> bool {
         let mut did = self.accept(now);
+        did |= self.let_in(engine, now);
         self.dial(now);
         did |= self.greet(engine, now);
+        let (count, last) = std::mem::take(&mut self.turned_away);
+        engine.turned_away(count, last);
         if !self.links.values().any(|link| link.is_readable) {
             return did;
         }
@@ -173,11 +186,11 @@ impl Net {
 
     fn read_from(&mut self, peer: SpaceId, engine: &mut Engine, now: Duration) -> bool {
         let Some(link) = self.links.get_mut(&peer) else { return false };
-        match link.stream.read(&mut self.piece) {
+        match link.wire.read(&mut self.piece) {
             Ok(0) => self.drop_link(peer, engine, now),
             Ok(count) => {
                 // The system says again when more comes behind a piece that isn't full.
-                link.is_readable = count == PIECE;
+                link.is_readable = count == PIECE || link.wire.is_sealed();
                 if let Err(how) = engine.bytes(peer, &self.piece[..count], now) {
                     spans::misbehaved(self.hello.space, peer, how);
                     self.shunned.insert(peer, now + SHUNNED);
@@ -201,7 +214,7 @@ impl Net {
         for (peer, link) in &mut self.links {
             let out = engine.output(*peer);
             while !out.is_empty() && link.is_writable {
-                match link.stream.write(out.left()) {
+                match link.wire.write(out.left()) {
                     Ok(count) => {
                         did = true;
                         out.advance(count);
@@ -264,12 +277,50 @@ impl Net {
                 break;
             };
             did = true;
-            let accepted = self.pending.values().filter(|pending| pending.dial.is_none()).count();
-            if accepted < MOST_PENDING {
-                self.begin(stream, None, now);
+            match self.has_room() {
+                true => self.begin(Wire::plain(stream), None, now, now),
+                false => self.turned_away.0 += 1,
             }
         }
         did
+    }
+
+    // Whether one more that came may be listened to.
+    fn has_room(&self) -> bool {
+        self.pending.values().filter(|pending| pending.dial.is_none()).count() < MOST_PENDING
+    }
+
+    // Takes what came through the door: whether anything did.
+    fn let_in(&mut self, engine: &mut Engine, now: Duration) -> bool {
+        let Some(door) = &self.door else { return false };
+        let (came, (count, last)) = (door.take(), door.take_turned_away());
+        self.turned_away = (self.turned_away.0 + count, last.or(self.turned_away.1));
+        let did = !came.is_empty();
+        for came in came {
+            match came {
+                Came::Shaken { wire, dial, waited } if dial.is_some() || self.has_room() => {
+                    self.begin(wire, dial, now.saturating_sub(waited), now);
+                }
+                Came::Shaken { .. } => self.turned_away.0 += 1,
+                Came::Refused { dial, flaw } => self.not_shaken(dial, flaw, engine, now),
+            }
+        }
+        did
+    }
+
+    // A connection that was opened isn't sealed: of what stays so it is waited for the longest.
+    fn not_shaken(&mut self, place: usize, flaw: Flaw, engine: &mut Engine, now: Duration) {
+        let Some(dial) = self.dials.get_mut(place) else { return };
+        if !matches!(flaw, Flaw::Broken | Flaw::Late) {
+            dial.wait = LONGEST_WAIT;
+            let line = dial.line.clone();
+            let why = Why::Certificate(flaw);
+            for space in line.last.up_to().filter(|space| line.has(*space)) {
+                spans::not_connected(self.hello.space, Some(space), why);
+                engine.refused(space, why);
+            }
+        }
+        self.wait_to_dial(place, now);
     }
 
     fn dial(&mut self, now: Duration) {
@@ -281,23 +332,24 @@ impl Net {
             dial.is_busy = true;
             dial.tries += 1;
             let address = dial.addresses[dial.tries % dial.addresses.len()];
-            match TcpStream::connect(address) {
-                Ok(stream) => self.begin(stream, Some(place), now),
-                Err(_) => self.wait_to_dial(place, now),
+            match (TcpStream::connect(address), &self.door) {
+                (Ok(stream), Some(door)) => door.ask(stream, place, dial.line.clone()),
+                (Ok(stream), None) => self.begin(Wire::plain(stream), Some(place), now, now),
+                (Err(_), _) => self.wait_to_dial(place, now),
             }
         }
     }
 
-    fn begin(&mut self, mut stream: TcpStream, dial: Option<usize>, now: Duration) {
+    fn begin(&mut self, mut wire: Wire, dial: Option<usize>, since: Duration, now: Duration) {
         let token = self.token();
         let both = Interest::READABLE | Interest::WRITABLE;
-        if self.poll.registry().register(&mut stream, Token(token), both).is_err() {
+        if self.poll.registry().register(&mut wire.stream, Token(token), both).is_err() {
             if let Some(dial) = dial {
                 self.wait_to_dial(dial, now);
             }
             return;
         }
-        let pending = Pending { stream, dial, came: Vec::new(), said: 0, since: now };
+        let pending = Pending { wire, dial, came: Vec::new(), said: 0, since };
         self.pending.insert(token, pending);
     }
 
@@ -317,15 +369,26 @@ impl Net {
                     did = true;
                     self.greeted(token, peer, engine, now);
                 }
-                Ok(None) | Err(_) => self.forget(token, now),
+                Ok(None) => self.forget(token, None, engine, now),
+                Err(error) => self.forget(token, flaw_in(&error), engine, now),
             }
         }
         did
     }
 
-    fn forget(&mut self, token: usize, now: Duration) {
-        if let Some(dial) = self.pending.remove(&token).and_then(|pending| pending.dial) {
-            self.wait_to_dial(dial, now);
+    fn forget(&mut self, token: usize, flaw: Option<Flaw>, engine: &mut Engine, now: Duration) {
+        let Some(pending) = self.pending.remove(&token) else { return };
+        match pending.dial {
+            Some(dial) => self.not_shaken(dial, flaw.unwrap_or(Flaw::Broken), engine, now),
+            None => self.turn_away(&pending, flaw.map_or(Why::NoHello, Why::Certificate)),
+        }
+    }
+
+    fn turn_away(&mut self, pending: &Pending, why: Why) {
+        self.turned_away.0 += 1;
+        if let Ok(from) = pending.wire.stream.peer_addr() {
+            spans::turned_away(self.hello.space, from, why);
+            self.turned_away.1 = Some(TurnedAway { from, why });
         }
     }
 
@@ -339,6 +402,7 @@ impl Net {
     ) {
         let judged = peer.and_then(|peer| self.judge(token, &peer, now).map(|()| peer));
         let connected = judged.and_then(|peer| {
+            engine.may_connect(peer.space, peer.life)?;
             if self.links.contains_key(&peer.space) {
                 self.drop_link(peer.space, engine, now);
             }
@@ -347,34 +411,48 @@ impl Net {
         let Some(mut pending) = self.pending.remove(&token) else { return };
         if pending.dial.is_none() {
             let said = Hello { refused: connected.err(), ..self.hello };
-            if pending.stream.write(&said.to_bytes()).ok() != Some(HELLO) {
+            if pending.wire.write(&said.to_bytes()).ok() != Some(HELLO) {
                 return connected.into_iter().for_each(|space| engine.disconnected(space, now));
             }
         }
         match connected {
-            Ok(space) => {
-                if let Some(dial) = pending.dial.and_then(|place| self.dials.get_mut(place)) {
-                    dial.wait = FIRST_WAIT;
-                }
-                let Pending { stream, dial, .. } = pending;
-                let link = Link { stream, is_readable: true, is_writable: true, dial };
-                self.links.insert(space, link);
-                self.tokens.insert(token, space);
-            }
+            Ok(space) => self.link(token, space, pending),
             Err(why) => {
                 let peer = peer.ok().map(|peer| peer.space);
-                spans::not_connected(self.hello.space, peer, why);
-                if let Some(space) = peer.filter(|_| pending.dial.is_some()) {
-                    engine.refused(space, why);
-                }
-                if let Some(place) = pending.dial {
-                    if let Some(dial) = self.dials.get_mut(place) {
-                        dial.wait = LONGEST_WAIT;
-                    }
-                    self.wait_to_dial(place, now);
-                }
+                self.not_linked(&pending, peer, why, engine, now);
             }
         }
+    }
+
+    // A peer is connected.
+    fn link(&mut self, token: usize, space: SpaceId, pending: Pending) {
+        if let Some(dial) = pending.dial.and_then(|place| self.dials.get_mut(place)) {
+            dial.wait = FIRST_WAIT;
+        }
+        let Pending { wire, dial, .. } = pending;
+        let link = Link { wire, is_readable: true, is_writable: true, dial };
+        self.links.insert(space, link);
+        self.tokens.insert(token, space);
+    }
+
+    // Either end refused the other one's hello.
+    fn not_linked(
+        &mut self,
+        pending: &Pending,
+        peer: Option<SpaceId>,
+        why: Why,
+        engine: &mut Engine,
+        now: Duration,
+    ) {
+        spans::not_connected(self.hello.space, peer, why);
+        let Some(place) = pending.dial else { return self.turn_away(pending, why) };
+        if let Some(space) = peer {
+            engine.refused(space, why);
+        }
+        if let Some(dial) = self.dials.get_mut(place) {
+            dial.wait = LONGEST_WAIT;
+        }
+        self.wait_to_dial(place, now);
     }
 
     // Whether a peer that says this hello may be connected: of two the higher one connects.
@@ -383,13 +461,18 @@ impl Net {
             return Err(why);
         }
         self.hello.judge(peer)?;
-        let dial = self.pending.get(&token).and_then(|pending| pending.dial);
+        let pending = self.pending.get(&token);
+        let dial = pending.and_then(|pending| pending.dial);
         let is_expected = match dial.and_then(|place| self.dials.get(place)) {
             Some(dial) => dial.line.has(peer.space),
             None => peer.space > self.hello.space,
         };
         let is_shunned = self.shunned.get(&peer.space).is_some_and(|until| now < *until);
-        if is_expected && !is_shunned { Ok(()) } else { Err(Why::OtherNumber) }
+        if !is_expected || is_shunned {
+            return Err(Why::OtherNumber);
+        }
+        let is_it = pending.is_some_and(|pending| pending.wire.may_be(peer.space));
+        if is_it { Ok(()) } else { Err(Why::Certificate(Flaw::OtherName)) }
     }
 }
 
@@ -398,15 +481,15 @@ impl Pending {
     fn step(&mut self, hello: &Hello) -> io::Result<Option<Result<Hello, Why>>> {
         if self.dial.is_some() && self.said < HELLO {
             let bytes = hello.to_bytes();
-            match self.stream.write(&bytes[self.said..]) {
+            match self.wire.write(&bytes[self.said..]) {
                 Ok(count) => self.said += count,
                 Err(error) if is_for_later(&error) => return Ok(None),
                 Err(error) => return Err(error),
             }
-            self.stream.set_nodelay(true)?;
+            self.wire.stream.set_nodelay(true)?;
         }
         let mut room = [0; HELLO];
-        match self.stream.read(&mut room[self.came.len()..]) {
+        match self.wire.read(&mut room[self.came.len()..]) {
             Ok(0) => return Err(ErrorKind::UnexpectedEof.into()),
             Ok(count) => {
                 let start = self.came.len();
@@ -416,11 +499,7 @@ impl Pending {
             Err(error) => return Err(error),
         }
         let Ok(bytes) = <&[u8; HELLO]>::try_from(&self.came[..]) else { return Ok(None) };
-        self.stream.set_nodelay(true)?;
+        self.wire.stream.set_nodelay(true)?;
         Ok(Some(Hello::from_bytes(bytes)))
     }
-}
-
-fn is_for_later(error: &io::Error) -> bool {
-    matches!(error.kind(), ErrorKind::WouldBlock | ErrorKind::NotConnected | ErrorKind::Interrupted)
 }

@@ -1,8 +1,10 @@
 //! Threads that run methods.
 
 use super::core::Task;
+use super::desks::Desk;
 use super::later::Turned;
 use super::shared::{Command, Shared};
+use crate::engine::Doing;
 use crate::interface::Exported;
 use std::collections::VecDeque;
 use std::io;
@@ -39,7 +41,8 @@ impl Pool {
         for number in 1..=workers.max(1) {
             let pool = pool.clone();
             let name = format!("masttomato-{}-worker-{number}", pool.shared.id());
-            thread::Builder::new().name(name).spawn(move || pool.work())?;
+            let own = name.clone();
+            thread::Builder::new().name(name).spawn(move || pool.work(own))?;
         }
         Ok(pool)
     }
@@ -84,7 +87,7 @@ impl Pool {
         drop(left);
     }
 
-    fn next(&self) -> Option<Errand> {
+    fn next(&self, desk: &Desk) -> Option<Errand> {
         let mut line = self.line();
         loop {
             if let Some(errand) = line.errands.pop_front() {
@@ -94,13 +97,19 @@ impl Pool {
                 return None;
             }
             line.sleep += 1;
+            desk.does(Doing::Rests);
             line = self.comes.wait(line).unwrap_or_else(PoisonError::into_inner);
             line.sleep -= 1;
         }
     }
 
-    fn work(&self) {
-        while let Some(errand) = self.next() {
+    fn work(&self, name: String) {
+        let desk = self.shared.desks().open(name);
+        while let Some(errand) = self.next(&desk) {
+            match &errand {
+                Errand::Run(task) => desk.runs(task.running()),
+                Errand::Turn(_) | Errand::Drop(_) => desk.does(Doing::Works),
+            }
             match errand {
                 Errand::Run(task) => {
                     let done = Box::new(task.run());

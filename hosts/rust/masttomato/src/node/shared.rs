@@ -2,6 +2,7 @@
 
 use super::call::CallState;
 use super::core::{Core, Done};
+use super::desks::Desks;
 use super::hold::Hold;
 use super::later::Turned;
 use crate::engine::Ticket;
@@ -72,6 +73,7 @@ pub struct Shared {
     is_looked_for: AtomicBool,
     stopped: Mutex<bool>,
     stops: Condvar,
+    desks: Desks,
 }
 
 impl fmt::Debug for Shared {
@@ -100,11 +102,16 @@ impl Shared {
             is_looked_for: AtomicBool::new(false),
             stopped: Mutex::new(false),
             stops: Condvar::new(),
+            desks: Desks::default(),
         })
     }
 
     pub(crate) fn id(&self) -> SpaceId {
         self.id
+    }
+
+    pub(crate) fn desks(&self) -> &Desks {
+        &self.desks
     }
 
     pub(crate) fn looks(&self) -> Duration {
@@ -150,6 +157,11 @@ impl Shared {
             let _woken = self.waker.wake();
         }
         true
+    }
+
+    /// Has the node's thread turn, whether it sleeps or is about to: for who left it something elsewhere than in the line.
+    pub(crate) fn rouse(&self) {
+        let _woken = self.waker.wake();
     }
 
     pub(crate) fn has_commands(&self) -> bool {

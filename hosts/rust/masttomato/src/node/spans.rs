@@ -4,6 +4,7 @@ use super::call::Completed;
 use crate::engine::{Misbehaved, Session, Why};
 use crate::space::{CallNo, Reference, SpaceId};
 use std::future::Future;
+use std::net::SocketAddr;
 
 #[cfg(feature = "tracing")]
 use tracing::{Instrument, Span, field};
@@ -120,4 +121,11 @@ pub(crate) fn misbehaved(here: SpaceId, peer: SpaceId, how: Misbehaved) {
 pub(crate) fn not_connected(here: SpaceId, peer: Option<SpaceId>, why: Why) {
     #[cfg(feature = "tracing")]
     tracing::warn!(here = here.get(), peer = peer.map_or(0, SpaceId::get), %why, "no connection");
+}
+
+/// A stranger isn't let in.
+#[cfg_attr(not(feature = "tracing"), allow(unused_variables))]
+pub(crate) fn turned_away(here: SpaceId, from: SocketAddr, why: Why) {
+    #[cfg(feature = "tracing")]
+    tracing::warn!(here = here.get(), %from, %why, "a stranger is turned away");
 }

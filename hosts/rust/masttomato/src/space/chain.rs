@@ -248,6 +248,31 @@ impl Chain {
         std::mem::take(&mut self.sealed)
     }
 
+    /// Takes the lines that weren't taken yet, of entries and of seals, also of the segment that isn't sealed: for who writes each
+    /// down before others hear of it. The first lines of segments aren't among them, since they say how many entries there will be;
+    /// `engine::Files` puts them in. All lines of a chain are taken so, or by [`take_segments`](Chain::take_segments).
+    ///
+    /// ```
+    /// # use masttomato::space::*;
+    /// # let one = SpaceId::try_from(1)?;
+    /// let mut chain = Chain::new(one, one, Limits::default(), SegmentSize::default());
+    /// chain.push(&Event::Clean, &Err(Refusal::Nothing));
+    /// assert_eq!(chain.take_lines(), "1 clean = S10\n");
+    /// chain.push(&Event::Clean, &Err(Refusal::Nothing));
+    /// chain.seal(0, []);
+    /// assert_eq!(chain.take_lines(), "2 clean = S10\nseal 2 live 0\n");
+    /// # Ok::<(), NoSpace>(())
+    /// ```
+    pub fn take_lines(&mut self) -> String {
+        let open = std::mem::take(&mut self.open);
+        if self.sealed.is_empty() {
+            return open;
+        }
+        let sealed = std::mem::take(&mut self.sealed);
+        let lines = sealed.split_inclusive('\n').filter(|line| !line.starts_with("segment "));
+        lines.chain([open.as_str()]).collect()
+    }
+
     /// The first line of a chain with so many segments.
     ///
     /// ```

@@ -1,9 +1,11 @@
 //! A space: the proved one of the static library, behind safe methods.
 
 use super::answers::{ActResult, Arrived, CallResult, ReplyFate, SettledItem, Status};
+use super::birth::{Birth, BirthError};
+use super::bounds::{self, Bounds, BoundsError, Wanted};
 use super::chain::{Chain, SegmentSize};
 use super::event::{Answer, Event, Job, Outcome};
-use super::frame::{Frame, FrameFault, Frames};
+use super::frame::{Frame, FrameFault, Frames, sender_of};
 use super::names::{CallNo, ItemNo, JobNo, Limits, Reason, Reference, SpaceId};
 use super::refusal::{Refusal, SpaceError};
 use super::tally::Tally;
@@ -83,6 +85,7 @@ pub struct Space {
     limits: Limits,
     trace: Option<Trace>,
     chain: Option<Chain>,
+    bounds: Option<Bounds>,
     // Where bytes of the library are copied to.
     room: Vec<u8>,
 }
@@ -203,6 +206,8 @@ pub enum StreamError {
     Waiting,
     /// Memory ran out; the same piece may be pushed again.
     OutOfMemory,
+    /// A space that has bounds takes frames one by one, by [`Space::arrive_bytes`].
+    HasBounds,
 }
 
 impl std::fmt::Display for StreamError {
@@ -211,6 +216,7 @@ impl std::fmt::Display for StreamError {
             StreamError::Fault(fault) => fault.fmt(f),
             StreamError::Waiting => f.write_str("frames still wait"),
             StreamError::OutOfMemory => f.write_str("out of memory"),
+            StreamError::HasBounds => f.write_str("a space that has bounds takes no streams"),
         }
     }
 }
@@ -286,7 +292,154 @@ impl Space {
     pub fn new(id: SpaceId, spaces: SpaceId, limits: Limits) -> Result<Space, SpaceError> {
         let (window, retry) = (limits.window().into(), limits.retry().into());
         let handle = Handle::new(id.get(), spaces.get(), window, retry).map_err(error_of)?;
-        Ok(Space { handle, id, spaces, limits, trace: None, chain: None, room: vec![0; 1024] })
+        Ok(Space::of(handle, id, spaces, limits))
+    }
+
+    /// A space whose life begins behind these numbers, which lives before it used; else it is as a new one. Nothing of
+    /// those lives is there: no object is live, nothing is held, and each session is open, in its number of the birth. Whoever
+    /// asks for it keeps what it needs of the life, for the next one: [`Space::begin_behind`] does so by itself.
+    ///
+    /// ```
+    /// # use masttomato::space::*;
+    /// let [one, two] = [SpaceId::try_from(1)?, SpaceId::try_from(2)?];
+    /// let mut birth = Birth { indexes: 4, calls: 7, ..Birth::default() };
+    /// birth.set_session(two, 3);
+    /// let mut space = Space::begin_at(one, two, Limits::default(), &birth)?;
+    /// assert_eq!((space.export()?.index, space.call(two.agent(), 0, &Value::Unit)?.get()), (5, 8));
+    /// assert_eq!(space.tally(two).map(|tally| tally.session), Some(3));
+    /// assert_eq!(space.dup(Reference { owner: one, index: 4 }), Err(Refusal::NoObject.into()));
+    /// # Ok::<(), Box<dyn std::error::Error>>(())
+    /// ```
+    ///
+    /// # Errors
+    /// Which number of the birth is out of range, the first of those that are; or that memory ran out.
+    ///
+    /// # Panics
+    /// Where its number is above the last one.
+    pub fn begin_at(
+        id: SpaceId,
+        spaces: SpaceId,
+        limits: Limits,
+        birth: &Birth,
+    ) -> Result<Space, BirthError> {
+        assert!(id <= spaces, "the space's number is above the last one");
+        let handle = Handle::begin_at(
+            id.get(),
+            spaces.get(),
+            limits.window().into(),
+            limits.retry().into(),
+            birth.indexes,
+            birth.calls,
+            birth.jobs,
+            birth.sessions_up_to(spaces),
+        );
+        let handle = handle.map_err(|status| {
+            BirthError::from_status(status).unwrap_or_else(|| unknown("status", status))
+        })?;
+        Ok(Space::of(handle, id, spaces, limits))
+    }
+
+    /// A space whose life begins behind bounds, which it keeps and raises as long as it lives: before an Export, a Call, an
+    /// Open, and a frame of a later session than was heard before, what they use is on disk. Where it can't be written
+    /// they answer [`SpaceError::NotCovered`] and change nothing. Streams of frames aren't taken ([`Space::push`]).
+    ///
+    /// ```
+    /// # use masttomato::space::*;
+    /// # let path = std::env::temp_dir().join(format!("masttomato-behind-{}", std::process::id()));
+    /// # let [one, two] = [1, 2].map(|number| SpaceId::new(number).expect("1 to 32"));
+    /// Bounds::create(&path, World::default(), one, two)?;
+    /// for first in ["1.1", "1.1025", "1.2049"] {
+    ///     let bounds = Bounds::open(&path, World::default(), one, two)?;
+    ///     let mut space = Space::begin_behind(bounds, Limits::default())?;
+    ///     assert_eq!(space.export()?.to_string(), first);
+    ///     // Here it is dropped, as if its process had been killed.
+    /// }
+    /// # std::fs::remove_file(&path)?;
+    /// # Ok::<(), Box<dyn std::error::Error>>(())
+    /// ```
+    ///
+    /// # Errors
+    /// As of [`Space::begin_at`].
+    pub fn begin_behind(bounds: Bounds, limits: Limits) -> Result<Space, BirthError> {
+        let space = Space::begin_at(bounds.space(), bounds.spaces(), limits, bounds.birth())?;
+        Ok(Space { bounds: Some(bounds), ..space })
+    }
+
+    fn of(handle: Handle, id: SpaceId, spaces: SpaceId, limits: Limits) -> Space {
+        let (trace, chain, bounds) = (None, None, None);
+        Space { handle, id, spaces, limits, trace, chain, bounds, room: vec![0; 1024] }
+    }
+
+    /// The bounds that it lives behind, if it does.
+    ///
+    /// ```
+    /// # use masttomato::space::*;
+    /// # let one = SpaceId::new(1).expect("1 to 32");
+    /// assert!(Space::new(one, one, Limits::default())?.bounds().is_none());
+    /// # Ok::<(), SpaceError>(())
+    /// ```
+    pub fn bounds(&self) -> Option<&Bounds> {
+        self.bounds.as_ref()
+    }
+
+    /// Ends the life of a space that has bounds, in order: they are exact then, so that the next life skips no index and no
+    /// call, and may begin. From now on the space answers [`SpaceError::NotCovered`] to an Export, a Call, an Open, a Transmit
+    /// and an Arrive. Of a space without bounds nothing ends.
+    ///
+    /// ```
+    /// # use masttomato::space::*;
+    /// # let path = std::env::temp_dir().join(format!("masttomato-end-life-{}", std::process::id()));
+    /// # let one = SpaceId::new(1).expect("1 to 32");
+    /// # Bounds::create(&path, World::default(), one, one)?;
+    /// let bounds = Bounds::open(&path, World::default(), one, one)?;
+    /// let mut space = Space::begin_behind(bounds, Limits::default()).expect("its numbers are in range");
+    /// space.export().expect("room");
+    /// space.end_life()?;
+    /// assert_eq!(space.export(), Err(SpaceError::NotCovered));
+    /// assert_eq!(Bounds::open(&path, World::default(), one, one)?.birth().indexes, 1);
+    /// # std::fs::remove_file(&path)?;
+    /// # Ok::<(), BoundsError>(())
+    /// ```
+    ///
+    /// # Errors
+    /// Where the exact numbers couldn't be written, or others weren't before: the next life begins behind the bounds, as after a
+    /// death.
+    pub fn end_life(&mut self) -> Result<(), BoundsError> {
+        self.bounds.as_mut().map_or(Ok(()), Bounds::end)
+    }
+
+    // The one place through which all goes that uses a number for the first time: it is covered on disk before. A frame
+    // that is further ahead than any honest one is lost here.
+    fn cover(&mut self, wanted: Wanted) -> Result<(), SpaceError> {
+        let Some(bounds) = &mut self.bounds else { return Ok(()) };
+        if let Wanted::Session(peer, number) = wanted
+            && number > bounds.session(peer)
+            && number > self.handle.tally(peer.get()).session.saturating_add(bounds::FARTHEST)
+        {
+            return Err(SpaceError::FarSession);
+        }
+        if bounds.cover(wanted) { Ok(()) } else { Err(SpaceError::NotCovered) }
+    }
+
+    // What a frame says that was heard: its session is covered, where it is from a peer and for this space.
+    fn cover_heard(&mut self, frame: &Frame) -> Result<(), SpaceError> {
+        self.goes_on()?;
+        let is_its = frame.to() == self.id && frame.from() <= self.spaces;
+        if is_its { self.cover(Wanted::Session(frame.from(), frame.session())) } else { Ok(()) }
+    }
+
+    // Whether bytes that may spell a frame are of a session above the bounds, if there are any. Most aren't.
+    fn is_above_bounds(&self, bytes: &[u8]) -> bool {
+        let (Some(bounds), Some((from, session))) = (&self.bounds, sender_of(bytes)) else {
+            return false;
+        };
+        session > bounds.session(from)
+    }
+
+    // Nothing is given and nothing arrives once a life has ended.
+    fn goes_on(&self) -> Result<(), SpaceError> {
+        let is_over = self.bounds.as_ref().is_some_and(Bounds::is_over);
+        if is_over { Err(SpaceError::NotCovered) } else { Ok(()) }
     }
 
     /// The number of the space.
@@ -461,6 +614,23 @@ impl Space {
         self.chain.as_mut().map(Chain::take_segments).unwrap_or_default()
     }
 
+    /// Takes the lines of the chain that weren't taken yet, as [`Chain::take_lines`] does: none where no chain is kept.
+    ///
+    /// ```
+    /// # use masttomato::space::*;
+    /// # let [one, two] = [1, 2].map(|number| SpaceId::new(number).expect("1 to 32"));
+    /// # let mut space = Space::new(one, two, Limits::default())?;
+    /// space.keep_chain(SegmentSize::default());
+    /// let _nothing = space.clean();
+    /// assert_eq!(space.take_chain_lines(), "1 clean = S10\n");
+    /// space.seal();
+    /// assert_eq!(space.take_chain_lines(), "seal 1 live 0 peer 2 session 1 sent 0 acted 0 open\n");
+    /// # Ok::<(), SpaceError>(())
+    /// ```
+    pub fn take_chain_lines(&mut self) -> String {
+        self.chain.as_mut().map(Chain::take_lines).unwrap_or_default()
+    }
+
     /// The chain, where one is kept.
     ///
     /// ```
@@ -527,7 +697,11 @@ impl Space {
     /// # Errors
     /// Limit where the space has all the live objects or indexes that it may have.
     pub fn export(&mut self) -> Result<Reference, SpaceError> {
+        self.cover(Wanted::Index)?;
         let result = told(self.handle.export()).map(reference_of);
+        if let (Ok(given), Some(bounds)) = (&result, &mut self.bounds) {
+            bounds.gave_index(given.index);
+        }
         self.noted(result, || Event::Export, Answer::Exported)
     }
 
@@ -596,9 +770,16 @@ impl Space {
         method: u16,
         value: &Value,
     ) -> Result<CallNo, SpaceError> {
+        // One of no peer is refused, whatever else it is; and where there is no peer no call can ever be passed over.
+        if target.owner != self.id && target.owner <= self.spaces {
+            self.cover(Wanted::Call)?;
+        }
         let (pickle, has_pickle) = self.pickle_of(value);
         let asked = self.handle.call(target.owner.get(), target.index, method, &pickle);
         let result = judged(told(asked), has_pickle).map(|told| CallNo::new(told.number));
+        if let (Ok(made), Some(bounds)) = (&result, &mut self.bounds) {
+            bounds.made_call(made.get());
+        }
         let event = || Event::Call { target, method, value: value.clone() };
         self.noted(result, event, Answer::Called)
     }
@@ -668,6 +849,9 @@ impl Space {
             method: told.method,
             value: self.value(),
         });
+        if let (Ok(claimed), Some(bounds)) = (&result, &mut self.bounds) {
+            bounds.claimed_job(claimed.job.get());
+        }
         self.noted(result, || Event::Claim, Answer::Job)
     }
 
@@ -859,6 +1043,7 @@ impl Space {
     /// # Errors
     /// NoPeer where there is no such peer.
     pub fn transmit(&mut self, peer: SpaceId) -> Result<Frames, SpaceError> {
+        self.goes_on()?;
         let result = told(self.handle.transmit(peer.get())).map(|told| match told.number {
             0 => Frames::default(),
             _ => Frames::from_library(self.answer()),
@@ -893,6 +1078,7 @@ impl Space {
     /// # Errors
     /// NoPeer where it isn't for this space or from none of its peers.
     pub fn arrive(&mut self, frame: &Frame) -> Result<Arrived, SpaceError> {
+        self.cover_heard(frame)?;
         let result = told(self.handle.arrive(frame.as_bytes())).map(arrived_of);
         self.noted(result, || Event::Arrive(frame.clone()), Answer::from)
     }
@@ -924,6 +1110,11 @@ impl Space {
     /// # Panics
     /// Where the library takes bytes for a frame that are none, and a trace is kept.
     pub fn arrive_bytes(&mut self, bytes: &[u8]) -> Result<Arrived, ArriveError> {
+        self.goes_on().map_err(ArriveError::Space)?;
+        if self.is_above_bounds(bytes) {
+            let frame = Frame::from_bytes(bytes.to_vec()).map_err(ArriveError::Fault)?;
+            self.cover_heard(&frame).map_err(ArriveError::Space)?;
+        }
         let asked = self.handle.arrive(bytes);
         if let status @ 41..=52 = asked.0 {
             return Err(ArriveError::Fault(FrameFault::ALL[status as usize - 41]));
@@ -957,6 +1148,9 @@ impl Space {
     /// Waiting where frames of the piece before still wait, Fault where the stream isn't one of frames, and
     /// OutOfMemory, after which the same piece may be pushed again.
     pub fn push(&mut self, peer: SpaceId, piece: &[u8]) -> Result<u64, StreamError> {
+        if self.bounds.is_some() {
+            return Err(StreamError::HasBounds);
+        }
         match self.handle.push(peer.get(), piece) {
             (0, told) => Ok(told.number),
             (14, _) => Err(StreamError::OutOfMemory),
@@ -1104,6 +1298,8 @@ impl Space {
     /// an object of the peer's is held here (in the hand, or on loan to a message or a job), is pinned here or
     /// stands in a message that waits here, Limit where no number is left.
     pub fn open(&mut self, peer: SpaceId) -> Result<u32, SpaceError> {
+        let present = self.handle.tally(peer.get()).session;
+        self.cover(Wanted::Session(peer, present.saturating_add(1)))?;
         let result = told(self.handle.open(peer.get())).map(number_of_session);
         self.noted(result, || Event::Open(peer), Answer::Opened)
     }
@@ -1306,7 +1502,7 @@ impl Space {
         let noted = match result.clone() {
             Ok(given) => Ok(answer(given)),
             Err(SpaceError::Refused(refusal)) => Err(refusal),
-            Err(SpaceError::OutOfMemory) => return result,
+            Err(_) => return result,
         };
         self.rise_to(self.stamp());
         let event = event();

@@ -499,6 +499,12 @@ fn judge_payload(header: &[u8; HEADER], payload: &[u8]) -> Result<(), FrameFault
     Ok(())
 }
 
+/// Who has sent a frame, and in which session, as its header says, before any of it was judged.
+pub(super) fn sender_of(bytes: &[u8]) -> Option<(SpaceId, u32)> {
+    let header = bytes.first_chunk::<HEADER>()?;
+    Some((SpaceId::new(u16_at(header, 4))?, u32_at(header, 28)))
+}
+
 // Reads until these bytes are filled: whether a first one came before the stream's end.
 fn fill_or_end(stream: &mut impl Read, bytes: &mut [u8]) -> io::Result<bool> {
     let mut filled = 0;

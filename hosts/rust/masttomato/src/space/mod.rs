@@ -30,11 +30,14 @@
 //! ```
 
 mod answers;
+mod birth;
+mod bounds;
 mod chain;
 mod event;
 mod events;
 mod frame;
 mod hex;
+mod lives;
 mod names;
 mod reading;
 mod refusal;
@@ -44,11 +47,14 @@ mod trace;
 mod value;
 
 pub use answers::{ActResult, Arrived, CallResult, ReplyFate, SettledItem, Status};
+pub use birth::{Birth, BirthError};
+pub use bounds::{Bounds, BoundsError};
 pub use chain::{Chain, SegmentSize};
 pub use event::{Answer, Event, Job, Outcome};
 pub use events::{ArriveError, Due, Space, StreamError, Work};
 pub use frame::{Frame, FrameFault, FrameKind, Frames, FramesIter};
-pub use names::{CallNo, ItemNo, JobNo, Limits, NoSpace, Reason, Reference, SpaceId};
+pub use lives::{JoinError, join_lives};
+pub use names::{CallNo, ItemNo, JobNo, Limits, NoSpace, Reason, Reference, SpaceId, World};
 pub use reading::NoText;
 pub use refusal::{Refusal, SpaceError, Use};
 pub use tally::Tally;

@@ -49,6 +49,11 @@ impl SpaceId {
         self.0
     }
 
+    // Its place in arrays of all spaces.
+    pub(crate) const fn place(self) -> usize {
+        self.0 as usize - 1
+    }
+
     /// The reference to this space's agent, which every space may call and which isn't counted.
     ///
     /// ```
@@ -149,6 +154,31 @@ impl Reference {
 impl fmt::Display for Reference {
     fn fmt(&self, f: &mut fmt::Formatter<'_>) -> fmt::Result {
         write!(f, "{}.{}", self.owner, self.index)
+    }
+}
+
+/// The name of a world, 16 bytes. Two worlds never mix.
+///
+/// ```
+/// # use masttomato::space::World;
+/// assert_eq!(World::default(), World::named(""));
+/// ```
+#[derive(Clone, Copy, Debug, Default, PartialEq, Eq, Hash)]
+pub struct World(pub [u8; 16]);
+
+impl World {
+    /// The world of a name, of which the first 16 bytes count.
+    ///
+    /// ```
+    /// # use masttomato::space::World;
+    /// assert_ne!(World::named("shop"), World::named("bank"));
+    /// ```
+    pub fn named(name: &str) -> World {
+        let mut bytes = [0; 16];
+        for (place, byte) in bytes.iter_mut().zip(name.bytes()) {
+            *place = byte;
+        }
+        World(bytes)
     }
 }
 

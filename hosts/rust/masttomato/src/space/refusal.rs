@@ -166,6 +166,12 @@ pub enum SpaceError {
     Refused(Refusal),
     /// Memory ran out inside the space. This makes no entry of a trace.
     OutOfMemory,
+    /// What it would use couldn't be covered on disk before, or the space's life has ended: see
+    /// [`Space::begin_behind`](super::Space::begin_behind). This makes no entry of a trace, either.
+    NotCovered,
+    /// The frame is of a session more than 2^20 above that of its end, which no honest peer reaches: it is lost. Only a
+    /// space that has bounds says so, since such frames would use up the numbers of its lives.
+    FarSession,
 }
 
 impl From<Refusal> for SpaceError {
@@ -179,6 +185,8 @@ impl fmt::Display for SpaceError {
         match self {
             SpaceError::Refused(refusal) => refusal.fmt(f),
             SpaceError::OutOfMemory => f.write_str("out of memory"),
+            SpaceError::NotCovered => f.write_str("the bounds of the space's life can't be raised"),
+            SpaceError::FarSession => f.write_str("the frame's session is too far ahead"),
         }
     }
 }
@@ -187,7 +195,7 @@ impl Error for SpaceError {
     fn source(&self) -> Option<&(dyn Error + 'static)> {
         match self {
             SpaceError::Refused(refusal) => Some(refusal),
-            SpaceError::OutOfMemory => None,
+            _ => None,
         }
     }
 }

@@ -88,7 +88,8 @@ impl fmt::Display for StepError {
             StepError::NoSpace => "X1",
             StepError::NoFrame => "X2",
             StepError::Space(SpaceError::Refused(refusal)) => refusal.name(),
-            StepError::Space(SpaceError::OutOfMemory) => "S14",
+            // The spaces of a script have no bounds, so nothing else is left.
+            StepError::Space(_) => "S14",
         })
     }
 }

@@ -1,10 +1,10 @@
 //! Whether traces are together a run: each answer is what a space answers (it is asked all of it
 //! again), and each frame that arrives was transmitted before. `nobj check` says more, where it is there.
 
-use masttomato::space::{Event, Limits, Space, SpaceId};
+use masttomato::space::{Event, Limits, SegmentSize, Space, SpaceId};
 use std::collections::HashMap;
 
-/// What is wrong with the traces, which each begin with their first lines.
+/// What is wrong with the traces and chains, which each begin with their first lines.
 pub fn fault_of(traces: &[String]) -> Option<String> {
     let mut given: HashMap<&str, (u64, usize)> = HashMap::new();
     for (place, trace) in traces.iter().enumerate() {
@@ -32,34 +32,56 @@ pub fn fault_of(traces: &[String]) -> Option<String> {
     traces.iter().find_map(|trace| replay_fault(trace))
 }
 
+/// The traces and chains that stand one after the other in a text.
+pub fn each_of(joined: &str) -> Vec<String> {
+    let mut traces: Vec<String> = Vec::new();
+    for line in joined.split_inclusive('\n') {
+        let is_first = line.starts_with("trace") || line.starts_with("chain ");
+        match traces.last_mut().filter(|_| !is_first) {
+            Some(trace) => trace.push_str(line),
+            None => traces.push(line.into()),
+        }
+    }
+    traces
+}
+
 fn entries(trace: &str) -> impl Iterator<Item = (u64, &str, &str)> {
-    trace.lines().skip(1).map(|line| {
+    let is_entry = |line: &&str| !line.starts_with("segment ") && !line.starts_with("seal ");
+    trace.lines().skip(1).filter(is_entry).map(|line| {
         let (stamp, entry) = line.split_once(' ').expect("a stamp");
         let (event, result) = entry.split_once(" = ").expect("an event and its result");
         (stamp.parse().expect("a number"), event, result)
     })
 }
 
-/// What a space answers otherwise than its trace says. One of version 1 is read as one of version 2: its
-/// frames name no session, and are of the first.
+/// What a space answers otherwise than its trace says; or than its chain says, or says otherwise in a seal. A trace of
+/// version 1 is read as one of version 2: its frames name no session, and are of the first.
 pub fn replay_fault(trace: &str) -> Option<String> {
     let trace = &of_version_2(trace);
     let mut lines = trace.lines();
     let mut space = space_of(lines.next().expect("a first line"));
     for line in lines {
-        let (stamp, entry) = line.split_once(' ').expect("a stamp");
-        let (event, _) = entry.split_once(" = ").expect("an event and its result");
-        let event: Event = event.parse().unwrap_or_else(|_| panic!("no event: {event}"));
-        space.rise_to(stamp.parse::<u64>().expect("a stamp") - 1);
-        let _ = space.step(&event);
+        match line.split_once(' ').expect("two words") {
+            ("segment", _) => {}
+            ("seal", _) => space.seal(),
+            (stamp, entry) => ask(&mut space, stamp, entry),
+        }
     }
-    let played = space.trace().expect("a trace").to_string();
+    let chain = space.chain().map(ToString::to_string);
+    let played = chain.or(space.trace().map(ToString::to_string)).expect("one of them is kept");
     let differs = played.lines().zip(trace.lines()).find(|(played, wanted)| played != wanted);
     match differs {
         Some((played, wanted)) => Some(format!("played {played}, wanted {wanted}")),
         None if played.len() != trace.len() => Some("a trace of another length".into()),
         None => None,
     }
+}
+
+fn ask(space: &mut Space, stamp: &str, entry: &str) {
+    let (event, _) = entry.split_once(" = ").expect("an event and its result");
+    let event: Event = event.parse().unwrap_or_else(|_| panic!("no event: {event}"));
+    space.rise_to(stamp.parse::<u64>().expect("a stamp") - 1);
+    let _ = space.step(&event);
 }
 
 // The same trace with frames of version 2. One of version 1 has no `open`.
@@ -86,17 +108,19 @@ fn frame_of_version_2(word: &str) -> String {
     }
 }
 
-// A space as the first line of a trace says: `trace2 S of N window W retry R entries K`.
+// A space as the first line of a trace says, `trace2 S of N window W retry R entries K`, or of a chain: it keeps one.
 fn space_of(line: &str) -> Space {
     let words: Vec<&str> = line.split(' ').collect();
-    let ["trace2", space, "of", spaces, "window", window, "retry", retry, "entries", _] = words[..]
-    else {
+    let [kind, space, "of", spaces, "window", window, "retry", retry, _, _] = words[..] else {
         panic!("{line}");
     };
     let number = |text: &str| text.parse::<u16>().expect("a number");
     let space_of = |text| SpaceId::new(number(text)).expect("a space");
     let limits = Limits::new(number(window) as u8, number(retry) as u8).expect("limits");
     let mut space = Space::new(space_of(space), space_of(spaces), limits).expect("memory");
-    space.keep_trace();
+    match kind {
+        "chain" => space.keep_chain(SegmentSize::default()),
+        _ => space.keep_trace(),
+    }
     space
 }

@@ -3,8 +3,9 @@
 
 use crate::things::*;
 use crate::{Numbers, SPACES};
-use masttomato::engine::Files;
-use masttomato::{CallError, Fault, Node, Peers, Remote, Session};
+use masttomato::engine::{Files, World};
+use masttomato::space::{Bounds, SegmentSize};
+use masttomato::{Builder, CallError, Fault, Node, Peers, Remote, Session};
 use std::path::{Path, PathBuf};
 use std::sync::Arc;
 use std::sync::atomic::{AtomicBool, AtomicU64, Ordering::SeqCst};
@@ -20,17 +21,44 @@ pub fn address_file(folder: &Path, number: u16) -> PathBuf {
     folder.join(format!("address-{number}"))
 }
 
-/// A node of the world, whose trace goes to files.
-pub fn node(number: u16, peers: Peers, folder: &Path) -> Node {
-    let here = id(number);
-    Node::builder(here, peers)
-        .listen("127.0.0.1:0")
-        .spaces(id(SPACES))
-        .give_up_after(GIVE_UP)
-        .workers(2)
-        .record(Files::new(folder, here, FILE))
-        .start()
-        .expect("a node")
+/// Where a space keeps its bounds.
+pub fn bounds_file(folder: &Path, number: u16) -> PathBuf {
+    folder.join(format!("bounds-{number}"))
+}
+
+/// Whether the processes of a number keep bounds, and so come back under it.
+pub fn keeps_bounds(number: u16) -> bool {
+    number.is_multiple_of(2)
+}
+
+// A node of the world, before it says what it records.
+fn builder(number: u16, peers: Peers) -> Builder {
+    let builder = Node::builder(id(number), peers).listen("127.0.0.1:0").spaces(id(SPACES));
+    builder.give_up_after(GIVE_UP).workers(2)
+}
+
+/// The first node of the world, which nothing befalls but weather.
+pub fn first_node(folder: &Path) -> Node {
+    let files = Files::new(folder, id(1), FILE);
+    builder(1, Peers::none()).record(files).start().expect("a node")
+}
+
+// The node of a life: it records a trace, or a chain.
+fn node(number: u16, peers: Peers, folder: &Path, numbers: &mut Numbers) -> Node {
+    let (here, mut builder) = (id(number), builder(number, peers));
+    let mut files = Files::new(folder, here, FILE);
+    if keeps_bounds(number) {
+        let path = bounds_file(folder, number);
+        let bounds = Bounds::open(path, World::default(), here, id(SPACES)).expect("its file");
+        files = Files::of_life(folder, here, bounds.life(), FILE);
+        builder = builder.bounds(bounds);
+    }
+    let size = SegmentSize::new(1 + numbers.below(500) as u32).filter(|_| numbers.below(2) == 0);
+    let builder = match size {
+        Some(size) => builder.record_chain(size, files.for_chain()),
+        None => builder.record(files),
+    };
+    builder.start().expect("a node")
 }
 
 // A counter that only this process calls: what it was last known to say, and how many calls of it may have
@@ -82,7 +110,8 @@ pub fn live(number: u16, seed: u64, folder: &Path) {
     let text = fs::read_to_string(folder.join("world.peers")).expect("the places");
     let lower: String =
         text.lines().take(usize::from(number) - 1).map(|line| format!("{line}\n")).collect();
-    let node = node(number, lower.parse().expect("the places"), folder);
+    let mut numbers = Numbers::new(seed);
+    let node = node(number, lower.parse().expect("the places"), folder, &mut numbers);
     let address = node.address().expect("it listens").to_string();
     let file = address_file(folder, number);
     fs::write(file.with_extension("new"), address).expect("a file");
@@ -94,7 +123,6 @@ pub fn live(number: u16, seed: u64, folder: &Path) {
         let _ended = io::copy(&mut io::stdin(), &mut io::sink());
         over.store(true, SeqCst);
     });
-    let mut numbers = Numbers::new(seed);
     let Ok(shelf) = node.lookup::<dyn Shelf>(id(1), "shelf").wait_for(3 * GIVE_UP) else { return };
     let (mut own, mut others): (Vec<Own>, Vec<Remote<dyn Counter>>) = (Vec::new(), Vec::new());
     let alive = Arc::new(AtomicU64::new(0));

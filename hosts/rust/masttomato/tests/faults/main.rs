@@ -1,26 +1,32 @@
 //! Real processes and bad weather: worlds one after the other, for a time and from a seed. In each, processes
-//! call, pass, hold and drop each other's objects by way of proxies that cut, halve, reset and stall; some are
-//! killed, some paused, some end in order, and others take their places. In the end nobody has anything, and
-//! the traces of all, as far as each was written, are a run.
+//! call, pass, hold and drop each other's objects by way of proxies that cut behind any byte, reset and stall, delay, split and
+//! join what is written, bring some connections to the wrong node, and put bytes of no record between records; and strangers come
+//! to all of them. Some processes are killed, some paused, some end in order; those that keep bounds come back under their
+//! numbers, and others take the places of the rest. In the end nobody has anything, no process has panicked, and the lives
+//! of all, as far as each was recorded, are joined a run.
 //!
-//! It takes some seconds; MASTTOMATO_FAULTS says how many it is to take, and MASTTOMATO_SEED from which seed:
+//! It takes some seconds; MASTTOMATO_FAULTS says how many it is to take, and MASTTOMATO_SEED from which seed. `bench/faults MINUTES
+//! SEED` does so:
 //!
 //!     MASTTOMATO_FAULTS=1800 MASTTOMATO_SEED=5 tools/host-cargo test --test faults -- --nocapture
 
 #[path = "../common/mod.rs"]
 mod common;
 mod life;
+mod manner;
+mod strangers;
 #[path = "../nodes/things.rs"]
 #[allow(dead_code)]
 mod things;
 mod weather;
 
-use common::checking::fault_of;
+use common::checking::{each_of, fault_of};
 use common::nobj;
-use life::address_file;
-use masttomato::engine::Files;
-use masttomato::{Peers, Remote, Session};
-use std::fs;
+use life::{address_file, bounds_file, keeps_bounds};
+use masttomato::engine::{Files, World};
+use masttomato::space::Bounds;
+use masttomato::{Remote, Session};
+use std::fs::{self, File};
 use std::path::{Path, PathBuf};
 use std::process::{Child, Command, Stdio};
 use std::sync::atomic::{AtomicU64, Ordering::SeqCst};
@@ -29,7 +35,7 @@ use std::time::{Duration, Instant};
 use things::*;
 use weather::Weather;
 
-/// So many spaces has a world: the first one, and as many lives as take the other numbers.
+/// So many spaces has a world: the first one, and those whose processes come and go.
 pub const SPACES: u16 = 16;
 const AT_ONCE: usize = 3;
 const LIFE: &str = "MASTTOMATO_LIFE";
@@ -51,6 +57,11 @@ impl Numbers {
         self.0 ^= self.0 >> 7;
         self.0 ^= self.0 << 17;
         (self.0 >> 11) % bound
+    }
+
+    /// The next so many bytes.
+    pub fn bytes(&mut self, count: usize) -> Vec<u8> {
+        (0..count).map(|_| self.below(256) as u8).collect()
     }
 }
 
@@ -77,10 +88,11 @@ fn a_life() {
 #[test]
 fn a_judge() {
     let Ok(folder) = std::env::var(JUDGE) else { return };
-    let trace = |number| Files::join(Path::new(&folder), id(number), id(SPACES)).expect("a trace");
-    let traces: Vec<String> = (1..=SPACES).map(trace).collect();
+    let joined = Files::join_lives(Path::new(&folder), id(SPACES)).expect("lines of lives");
+    let traces = each_of(&joined);
+    assert_eq!(traces.len(), usize::from(SPACES));
     assert_eq!(fault_of(&traces), None);
-    if let Some(said) = nobj("check", traces.concat().as_bytes()) {
+    if let Some(said) = nobj("check", joined.as_bytes()) {
         assert!(said.ends_with("\nverdict yes\n"), "{said}");
     }
 }
@@ -96,8 +108,11 @@ struct Life {
 impl Life {
     fn begin(number: u16, seed: u64, until: Instant, folder: &Path) -> Life {
         let told = format!("{number} {seed} {}", folder.display());
-        let process =
-            again("a_life", LIFE, &told).stdin(Stdio::piped()).spawn().expect("a process");
+        // Nobody finds it where the life before was.
+        let _was_there = fs::remove_file(address_file(folder, number));
+        let said = File::create(folder.join(format!("said-{number}-{seed}"))).expect("a file");
+        let mut command = again("a_life", LIFE, &told);
+        let process = command.stdin(Stdio::piped()).stderr(said).spawn().expect("a process");
         Life { process, number, until, is_paused: false }
     }
 
@@ -124,10 +139,13 @@ impl Life {
 /// What a world came to.
 #[derive(Debug, Default)]
 struct Sums {
-    lives: u16,
+    lives: u32,
+    reborn: u32,
     kills: u32,
     pauses: u32,
     faults: u64,
+    strangers: u64,
+    astray: u64,
     calls: u64,
 }
 
@@ -138,38 +156,76 @@ fn world(seed: u64, time: Duration, folder: &Path) -> Sums {
     let places: String =
         (1..=SPACES).map(|place| format!("{place} {}\n", weather.address(place))).collect();
     fs::write(folder.join("world.peers"), places).expect("a file");
-    let node = life::node(1, Peers::none(), folder);
+    for number in (2..=SPACES).filter(|number| keeps_bounds(*number)) {
+        let path = bounds_file(folder, number);
+        Bounds::create(path, World::default(), id(number), id(SPACES)).expect("a file");
+    }
+    let node = life::first_node(folder);
     weather.settle(1, node.address());
     let board = Board::default();
     let alive = board.alive.clone();
     let shelf = node.export::<dyn Shelf>(Box::new(board)).expect("room");
     node.bind("shelf", &shelf).expect("a name");
-    let (end, mut sums, mut lives) = (Instant::now() + time, Sums::default(), Vec::new());
-    while Instant::now() < end && (sums.lives + 1 < SPACES || !lives.is_empty()) {
-        if lives.len() < AT_ONCE && sums.lives + 1 < SPACES {
-            sums.lives += 1;
-            let until = Instant::now() + Duration::from_millis(200 + numbers.below(6_000));
-            lives.push(Life::begin(sums.lives + 1, numbers.below(1 << 40), until, folder));
-        }
-        thread::sleep(Duration::from_millis(20));
-        follow(&weather, &mut lives, &mut numbers, &mut sums, folder);
-    }
-    lives.into_iter().for_each(Life::end);
-    sums.faults = weather.faults.load(SeqCst);
+    let mut sums = populate(&weather, time, &mut numbers, folder);
+    [sums.faults, sums.strangers, sums.astray] = weather.sums();
     // What the lives held is given up, and what they left on the shelf is the first one's own again.
     node.unbind("shelf");
     empty(&shelf);
     let came =
         |number| !matches!(node.session(id(number)), Session::Down { since } if since.is_zero());
-    for number in (2..sums.lives + 2).filter(|number| came(*number)) {
+    for number in (2..=SPACES).filter(|number| came(*number)) {
         eventually("its session closes", || matches!(node.session(id(number)), Session::Closed(_)));
     }
     drop(shelf);
     eventually("what the lives held is given up", || alive.load(SeqCst) == 0);
     eventually("no call is open", || node.counts().calls_open == 0);
+    eventually("no object is live", || node.report().is_ok_and(|report| report.live == 0));
     sums.calls = node.counts().jobs_finished;
     node.shutdown(SOON);
+    assert_no_panic(folder);
     sums
+}
+
+// For so long processes begin and come to their ends; then all that live are told to.
+fn populate(weather: &Weather, time: Duration, numbers: &mut Numbers, folder: &Path) -> Sums {
+    let (end, mut sums, mut lives) = (Instant::now() + time, Sums::default(), Vec::new());
+    let mut used = Vec::new();
+    while Instant::now() < end {
+        if lives.len() < AT_ONCE
+            && let Some(number) = next_number(&used, &lives, numbers)
+        {
+            sums.lives += 1;
+            sums.reborn += u32::from(used.contains(&number));
+            used.push(number);
+            let until = Instant::now() + Duration::from_millis(200 + numbers.below(6_000));
+            lives.push(Life::begin(number, numbers.below(1 << 40), until, folder));
+        }
+        thread::sleep(Duration::from_millis(20));
+        follow(weather, &mut lives, numbers, &mut sums, folder);
+    }
+    lives.into_iter().for_each(Life::end);
+    sums
+}
+
+// Whose process is the next to begin: one that comes back, or one whose number wasn't used.
+fn next_number(used: &[u16], lives: &[Life], numbers: &mut Numbers) -> Option<u16> {
+    let is_free = |number: &u16| lives.iter().all(|life| life.number != *number);
+    let fresh = (2..=SPACES).find(|number| !used.contains(number));
+    let reborn: Vec<u16> =
+        (2..=SPACES).filter(|n| keeps_bounds(*n) && used.contains(n)).filter(is_free).collect();
+    let reborn = reborn.get(numbers.below(reborn.len().max(1) as u64) as usize).copied();
+    if numbers.below(3) == 0 { fresh.or(reborn) } else { reborn.or(fresh) }
+}
+
+// Also of a process that was killed afterwards, or went on, it is known what it said.
+fn assert_no_panic(folder: &Path) {
+    for entry in fs::read_dir(folder).expect("the folder") {
+        let path = entry.expect("an entry").path();
+        if path.file_name().is_some_and(|name| name.to_string_lossy().starts_with("said-")) {
+            let said = fs::read_to_string(&path).expect("text");
+            assert!(!said.contains("panicked at"), "{}: {said}", path.display());
+        }
+    }
 }
 
 // Lives come to their ends: by themselves, killed, or told to.

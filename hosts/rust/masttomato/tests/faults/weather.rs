@@ -1,7 +1,9 @@
 //! The way between processes: a proxy in front of each of them, and what befalls its connections.
 
 use crate::Numbers;
-use std::io::{ErrorKind, Read, Write};
+use crate::manner::{Manner, Way};
+use crate::strangers;
+use std::io::{ErrorKind, Read};
 use std::net::{Shutdown, SocketAddr, TcpListener, TcpStream};
 use std::sync::atomic::{AtomicBool, AtomicU64, Ordering::SeqCst};
 use std::sync::{Arc, Mutex};
@@ -11,16 +13,35 @@ use std::time::Duration;
 /// What befalls a connection.
 #[derive(Clone, Copy, Debug, PartialEq, Eq)]
 pub enum Fault {
-    /// It is cut.
+    /// It is cut where it is.
     Cut,
-    /// It is cut behind half of what goes over it next.
-    Half,
+    /// It is cut behind so many more bytes one way.
+    CutBehind(usize),
     /// It is let go with what came over it unread, so that the system resets it.
     Reset,
     /// One side is told that nothing comes any more; the other goes on.
     OneSide,
-    /// Nothing goes over it for so many milliseconds.
+    /// Nothing goes over it one way for so many milliseconds.
     Stall(u64),
+    /// From now on what goes over it one way goes so.
+    Turns(Manner),
+    /// Behind the record that goes over it one way stand so many bytes of no record.
+    Garbage(usize),
+}
+
+impl Fault {
+    fn any(numbers: &mut Numbers) -> Fault {
+        match numbers.below(32) {
+            0..4 => Fault::Cut,
+            4..9 => Fault::CutBehind(numbers.below(600) as usize),
+            9..11 => Fault::Reset,
+            11..13 => Fault::OneSide,
+            13 => Fault::Stall(500 + numbers.below(3_000)),
+            14..20 => Fault::Stall(1 + numbers.below(60)),
+            20..23 => Fault::Garbage(16 + numbers.below(200) as usize),
+            _ => Fault::Turns(Manner::any(numbers)),
+        }
+    }
 }
 
 /// A connection that is carried.
@@ -33,64 +54,97 @@ struct Carried {
 /// Where nobody lives yet, or any more.
 type Target = Arc<Mutex<Option<SocketAddr>>>;
 
-/// The proxies of a world, and its weather.
-pub struct Weather {
-    places: Vec<(SocketAddr, Target)>,
+/// What all threads of a world's weather share.
+#[derive(Clone, Default)]
+struct Shared {
+    places: Arc<Mutex<Vec<(SocketAddr, Target)>>>,
     carried: Arc<Mutex<Vec<Arc<Carried>>>>,
     is_over: Arc<AtomicBool>,
-    pub faults: Arc<AtomicU64>,
+    faults: Arc<AtomicU64>,
+    strangers: Arc<AtomicU64>,
+    astray: Arc<AtomicU64>,
+}
+
+/// The proxies of a world, and its weather.
+pub struct Weather {
+    shared: Shared,
     threads: Vec<JoinHandle<()>>,
 }
 
 impl Weather {
     /// So many places, from 1 on, and bad weather from a seed.
     pub fn new(places: u16, seed: u64) -> Weather {
-        let mut weather = Weather {
-            places: Vec::new(),
-            carried: Arc::default(),
-            is_over: Arc::default(),
-            faults: Arc::default(),
-            threads: Vec::new(),
-        };
-        for _ in 0..places {
+        let mut weather = Weather { shared: Shared::default(), threads: Vec::new() };
+        for place in 0..places {
             let listener = TcpListener::bind("127.0.0.1:0").expect("a port");
-            let target = Target::default();
-            weather.places.push((listener.local_addr().expect("its address"), target.clone()));
-            let (carried, is_over) = (weather.carried.clone(), weather.is_over.clone());
-            weather
-                .threads
-                .push(thread::spawn(move || accept(&listener, &target, &carried, &is_over)));
+            let address = listener.local_addr().expect("its address");
+            weather.shared.places.lock().unwrap().push((address, Target::default()));
+            let numbers = Numbers::new(seed + 100 + u64::from(place));
+            weather.begin(move |shared| accept(&listener, place, &shared, numbers));
         }
-        let (carried, is_over) = (weather.carried.clone(), weather.is_over.clone());
-        let faults = weather.faults.clone();
-        weather.threads.push(thread::spawn(move || {
-            let mut numbers = Numbers::new(seed);
-            while !is_over.load(SeqCst) {
+        let mut numbers = Numbers::new(seed);
+        weather.begin(move |shared| {
+            while !shared.is_over.load(SeqCst) {
                 thread::sleep(Duration::from_millis(5 + numbers.below(250)));
-                befall(&carried, &mut numbers, &faults);
+                befall(&shared, &mut numbers);
             }
-        }));
+        });
+        let mut numbers = Numbers::new(seed + 50);
+        weather.begin(move |shared| {
+            while !shared.is_over.load(SeqCst) {
+                thread::sleep(Duration::from_millis(20 + numbers.below(300)));
+                if let Some(address) = shared.any_target(&mut numbers) {
+                    strangers::visit(address, &mut numbers);
+                    shared.strangers.fetch_add(1, SeqCst);
+                }
+            }
+        });
         weather
+    }
+
+    fn begin(&mut self, work: impl FnOnce(Shared) + Send + 'static) {
+        let shared = self.shared.clone();
+        self.threads.push(thread::spawn(move || work(shared)));
     }
 
     /// Where a place is found by others.
     pub fn address(&self, place: u16) -> SocketAddr {
-        self.places[usize::from(place) - 1].0
+        self.shared.places.lock().unwrap()[usize::from(place) - 1].0
     }
 
     /// Who lives at a place listens here.
     pub fn settle(&self, place: u16, address: Option<SocketAddr>) {
-        *self.places[usize::from(place) - 1].1.lock().unwrap() = address;
+        let places = self.shared.places.lock().unwrap();
+        *places[usize::from(place) - 1].1.lock().unwrap() = address;
+    }
+
+    /// How many faults befell connections, how many strangers came, and how many connections went astray.
+    pub fn sums(&self) -> [u64; 3] {
+        let Shared { faults, strangers, astray, .. } = &self.shared;
+        [faults, strangers, astray].map(|sum| sum.load(SeqCst))
+    }
+}
+
+impl Shared {
+    fn target(&self, place: u16) -> Option<SocketAddr> {
+        *self.places.lock().unwrap()[usize::from(place)].1.lock().unwrap()
+    }
+
+    // Where somebody lives.
+    fn any_target(&self, numbers: &mut Numbers) -> Option<SocketAddr> {
+        let count = self.places.lock().unwrap().len() as u16;
+        let settled: Vec<SocketAddr> = (0..count).filter_map(|place| self.target(place)).collect();
+        settled.get(numbers.below(settled.len().max(1) as u64) as usize).copied()
     }
 }
 
 impl Drop for Weather {
     fn drop(&mut self) {
-        self.is_over.store(true, SeqCst);
-        for carried in self.carried.lock().unwrap().iter() {
+        self.shared.is_over.store(true, SeqCst);
+        for carried in self.shared.carried.lock().unwrap().iter() {
             carried.is_over.store(true, SeqCst);
         }
-        for (address, _) in &self.places {
+        for (address, _) in &*self.shared.places.lock().unwrap() {
             // Who waits for a connection sees that it is over.
             let _woken = TcpStream::connect(address);
         }
@@ -100,50 +154,37 @@ impl Drop for Weather {
     }
 }
 
-fn befall(carried: &Mutex<Vec<Arc<Carried>>>, numbers: &mut Numbers, faults: &AtomicU64) {
-    let mut carried = carried.lock().unwrap();
+fn befall(shared: &Shared, numbers: &mut Numbers) {
+    let mut carried = shared.carried.lock().unwrap();
     carried.retain(|carried| !carried.is_over.load(SeqCst));
     if carried.is_empty() {
         return;
     }
-    let fault = match numbers.below(20) {
-        0..5 => Fault::Cut,
-        5..8 => Fault::Half,
-        8..10 => Fault::Reset,
-        10..12 => Fault::OneSide,
-        12 => Fault::Stall(500 + numbers.below(3_000)),
-        _ => Fault::Stall(1 + numbers.below(60)),
-    };
     let place = numbers.below(carried.len() as u64) as usize;
-    *carried[place].fault.lock().unwrap() = Some(fault);
-    faults.fetch_add(1, SeqCst);
+    *carried[place].fault.lock().unwrap() = Some(Fault::any(numbers));
+    shared.faults.fetch_add(1, SeqCst);
 }
 
-fn accept(
-    listener: &TcpListener,
-    target: &Target,
-    carried: &Mutex<Vec<Arc<Carried>>>,
-    is_over: &AtomicBool,
-) {
+fn accept(listener: &TcpListener, place: u16, shared: &Shared, mut numbers: Numbers) {
     for near in listener.incoming().flatten() {
-        if is_over.load(SeqCst) {
+        if shared.is_over.load(SeqCst) {
             return;
         }
-        let address = *target.lock().unwrap();
-        let Some(far) = address.and_then(|address| TcpStream::connect(address).ok()) else {
+        // Some go astray, and come to whoever lives elsewhere.
+        let is_astray = numbers.below(15) == 0;
+        let target = if is_astray { shared.any_target(&mut numbers) } else { shared.target(place) };
+        shared.astray.fetch_add(is_astray.into(), SeqCst);
+        let Some(far) = target.and_then(|address| TcpStream::connect(address).ok()) else {
             continue;
         };
         let both = Arc::new(Carried::default());
-        for stream in [&near, &far] {
-            stream.set_nodelay(true).expect("a socket");
-            stream.set_read_timeout(Some(Duration::from_millis(20))).expect("a socket");
-        }
         let (Ok(back), Ok(forth)) = (near.try_clone(), far.try_clone()) else { continue };
-        carried.lock().unwrap().push(both.clone());
+        shared.carried.lock().unwrap().push(both.clone());
         for (from, to) in [(near, forth), (far, back)] {
-            let both = both.clone();
+            let (both, seed) = (both.clone(), numbers.below(1 << 40));
+            to.set_nodelay(true).expect("a socket");
             thread::spawn(move || {
-                carry(from, to, &both);
+                carry(from, Way::new(to, seed), &both);
                 both.is_over.store(true, SeqCst);
             });
         }
@@ -151,40 +192,35 @@ fn accept(
 }
 
 // Carries what comes one way, until either way is over.
-fn carry(mut from: TcpStream, mut to: TcpStream, both: &Carried) {
+fn carry(mut from: TcpStream, mut way: Way, both: &Carried) {
     let mut piece = [0; 8_192];
-    let mut is_deaf = false;
     while !both.is_over.load(SeqCst) {
-        let fault = both.fault.lock().unwrap().take();
-        match fault {
+        match both.fault.lock().unwrap().take() {
             Some(Fault::Cut) => break,
             Some(Fault::Reset) => return,
             Some(Fault::Stall(time)) => thread::sleep(Duration::from_millis(time)),
-            Some(Fault::OneSide) => {
-                let _was_closed = to.shutdown(Shutdown::Write);
-                is_deaf = true;
-            }
-            Some(Fault::Half) | None => {}
+            Some(Fault::OneSide) => way.falls_silent(),
+            Some(Fault::CutBehind(count)) => way.ends_behind(count),
+            Some(Fault::Turns(manner)) => way.turns(manner),
+            Some(Fault::Garbage(count)) => way.spoils(count),
+            None => {}
         }
-        let count = match from.read(&mut piece) {
-            Ok(0) => break,
-            Ok(count) => count,
-            Err(error) if is_for_later(error.kind()) => {
-                // Half of nothing is for the next piece.
-                if fault == Some(Fault::Half) {
-                    *both.fault.lock().unwrap() = fault;
-                }
-                continue;
+        from.set_read_timeout(Some(way.patience())).expect("a socket");
+        let came = match from.read(&mut piece) {
+            Ok(0) => {
+                let _brought = way.bring_all();
+                break;
             }
+            Ok(count) => count,
+            Err(error) if is_for_later(error.kind()) => 0,
             Err(_) => break,
         };
-        let is_half = fault == Some(Fault::Half);
-        let written = if is_half { count / 2 } else { count };
-        if !is_deaf && to.write_all(&piece[..written]).is_err() || is_half {
+        if way.carry(&piece[..came]).is_err() {
             break;
         }
     }
-    let _was_closed = (from.shutdown(Shutdown::Both), to.shutdown(Shutdown::Both));
+    let _was_closed = from.shutdown(Shutdown::Both);
+    way.close();
 }
 
 fn is_for_later(kind: ErrorKind) -> bool {

@@ -6,6 +6,7 @@ mod later;
 mod plain;
 mod proxy;
 mod things;
+mod threads;
 
 use common::checking::fault_of;
 use common::nobj;
@@ -438,7 +439,7 @@ fn the_chains_of_nodes_are_a_run() {
     let record = |builder: masttomato::Builder| {
         let number = place.fetch_add(1, SeqCst) as u16 + 1;
         let size = SegmentSize::new(10 * u32::from(number)).expect("a size");
-        builder.record_chain(size, Files::of_segments(&folder, id(number), 1 << 12))
+        builder.record_chain(size, Files::new(&folder, id(number), 1 << 12).for_chain())
     };
     let [one, two] = nodes(2, record).try_into().expect("two");
     let (counter, _alive) = tally(&one);

@@ -16,7 +16,7 @@ pub struct Plain {
 }
 
 pub fn hello(number: u16, spaces: u16, life: u64) -> Hello {
-    let (space, spaces, life) = (id(number), id(spaces), Life(life));
+    let (space, spaces, life) = (id(number), id(spaces), Life::only(life));
     Hello { space, spaces, world: World::default(), life, refused: None }
 }
 

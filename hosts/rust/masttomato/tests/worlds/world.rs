@@ -260,7 +260,7 @@ impl World {
         self.net.connect(one, other);
         for (here, there) in [(one, other), (other, one)] {
             let node = &mut self.nodes[here];
-            let life = Life(there as u64 + 100);
+            let life = Life::only(there as u64 + 100);
             node.engine.connected(space(there), life, node.now).expect("its own life");
         }
     }
@@ -368,6 +368,9 @@ impl World {
             );
             assert!(fate.ran <= 1 && fate.replies <= fate.ran, "{ticket}: {fate:?}");
         }
+        // Whoever has a reference is listed for its object whenever a call of it is acted on.
+        let unlisted = |node: &Node| node.engine.counts().calls_unlisted;
+        assert_eq!(self.nodes.iter().map(unlisted).sum::<u64>(), 0);
         let traces = self.traces();
         if let Some(fault) = fault_of(&traces) {
             panic!("{fault}");

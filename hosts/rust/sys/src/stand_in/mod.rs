@@ -12,7 +12,7 @@ mod table;
 use crate::{Answered, Tally, Told, Work};
 use frame::Feed;
 use pickle::Pickle;
-use space::{Space, refusal};
+use space::{Birth, Space, refusal};
 use std::cell::Cell;
 use std::collections::VecDeque;
 use std::marker::PhantomData;
@@ -161,12 +161,58 @@ impl Handle {
     /// # Errors
     /// 60 where a number is outside its range.
     pub fn new(id: u16, n: u16, window: u64, retry: u64) -> Result<Handle, u32> {
+        match id <= n {
+            true => Handle::begin_at(id, n, window, retry, 0, 0, 0, &vec![1; n.into()]),
+            false => Err(OUT_OF_RANGE),
+        }
+    }
+
+    /// A space whose life begins behind so many indexes, calls and jobs that were given, made and claimed before, and
+    /// whose session with each space has a number: one for each of them, from space 1 on. What stands at the space's own
+    /// place isn't read. Else it is as a new one.
+    ///
+    /// ```
+    /// # use masttomato_sys::stand_in::Handle;
+    /// let mut handle = Handle::begin_at(1, 2, 8, 16, 4, 7, 0, &[0, 3])?;
+    /// assert_eq!((handle.export().1.index, handle.call(2, 0, 0, &[0]).1.number), (5, 8));
+    /// assert_eq!(handle.tally(2).session, 3);
+    /// let refused = |indexes, calls, session| {
+    ///     Handle::begin_at(1, 2, 8, 16, indexes, calls, 0, &[0, session]).err()
+    /// };
+    /// assert_eq!((refused(1 + (1 << 48), 0, 1), refused(0, 0, 0)), (Some(71), Some(74)));
+    /// assert_eq!(refused(0, 1, 1), Some(74));          // in which session would that have been?
+    /// assert_eq!(refused(0, 1 + (1 << 40), 2), Some(75));
+    /// assert_eq!(refused(0, 0, 1), None);              // a new space
+    /// # Ok::<(), u32>(())
+    /// ```
+    ///
+    /// # Errors
+    /// The first of these: 60 where a space or a limit is outside its range, or the count of the sessions isn't that of the
+    /// spaces; 71, 72 and 73 where the indexes, the calls or the jobs are above 2^48; 74 where the number of the session
+    /// with a peer is below 2, but that of a new space, which has done nothing, is 1 with each; 75 where there were calls or jobs, but more than could come and go, 2^40 in each, in the
+    /// sessions before that with any one peer.
+    // As many numbers as the library's function takes.
+    #[allow(clippy::too_many_arguments)]
+    pub fn begin_at(
+        id: u16,
+        n: u16,
+        window: u64,
+        retry: u64,
+        indexes: u64,
+        calls: u64,
+        jobs: u64,
+        sessions: &[u32],
+    ) -> Result<Handle, u32> {
         let fits = (1..=64).contains(&window) && (1..=255).contains(&retry);
-        if !is_space(id) || n > 32 || id > n || !fits {
+        if !is_space(id) || n > 32 || !fits || sessions.len() != usize::from(n) {
             return Err(OUT_OF_RANGE);
         }
+        let birth = Birth { indexes, calls, jobs, sessions };
+        if let Some(status) = birth.fault(id) {
+            return Err(status);
+        }
         Ok(Handle {
-            space: Space::new(id, n, window, retry),
+            space: Space::begin_at(id, window, retry, birth),
             feeds: (0..=32).map(|_| Feed::new()).collect(),
             waiting: VecDeque::new(),
             value: None,

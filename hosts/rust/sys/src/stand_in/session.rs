@@ -53,10 +53,15 @@ pub(super) enum Arrival {
 
 impl Session {
     pub(super) fn new(here: u16, peer: u16, window: u64, retry: u64) -> Session {
+        Session::begin_at(here, peer, window, retry, FIRST_SESSION)
+    }
+
+    /// The end of a session of this number, at which nothing has arrived.
+    pub(super) fn begin_at(here: u16, peer: u16, window: u64, retry: u64, number: u32) -> Session {
         Session {
             here,
             peer,
-            number: FIRST_SESSION,
+            number,
             seen: 0,
             window,
             retry,

@@ -3,8 +3,8 @@
 use super::frame::{self, Frame};
 use super::item::Item;
 use super::pickle::Pickle;
-use super::session::{Arrival, Session};
-use super::table::{MOST_LIVE, Standing, Table};
+use super::session::{Arrival, LAST_ITEM, Session};
+use super::table::{LAST_INDEX, MOST_LIVE, Standing, Table};
 use super::{Answer, Reference};
 use std::collections::{BTreeMap, BTreeSet, HashMap, VecDeque};
 
@@ -64,6 +64,39 @@ enum Call {
     Ended,
 }
 
+/// The numbers that a life of a space begins behind, and the number of the session with each space, by its place.
+#[derive(Clone, Copy, Debug)]
+pub(super) struct Birth<'a> {
+    pub(super) indexes: u64,
+    pub(super) calls: u64,
+    pub(super) jobs: u64,
+    pub(super) sessions: &'a [u32],
+}
+
+impl Birth<'_> {
+    /// The status of the first of its numbers that is out of range: a count above its limit, a session below 2, or
+    /// more calls and jobs than items could come and go in the earlier sessions with any one peer. Of a new space,
+    /// where nothing was and each session has number 1, none is.
+    pub(super) fn fault(&self, here: u16) -> Option<u32> {
+        let of_peers = (1..).zip(self.sessions).filter(|(space, _)| *space != here);
+        let numbers: Vec<u64> = of_peers.map(|(_, number)| (*number).into()).collect();
+        let could_be = |before: u64| {
+            let earlier = |number: &u64| LAST_ITEM.saturating_mul(number - 1);
+            numbers.iter().any(|number| before <= earlier(number))
+        };
+        let was_nothing = (self.indexes, self.calls, self.jobs) == (0, 0, 0);
+        match () {
+            () if was_nothing && numbers.iter().all(|number| *number == 1) => None,
+            () if self.indexes > LAST_INDEX => Some(71),
+            () if self.calls > LAST_NUMBER => Some(72),
+            () if self.jobs > LAST_NUMBER => Some(73),
+            () if numbers.iter().any(|number| *number < 2) => Some(74),
+            () if self.calls + self.jobs > 0 && !could_be(self.calls + self.jobs) => Some(75),
+            () => None,
+        }
+    }
+}
+
 /// A space of the numbers 1 to `spaces`.
 #[derive(Debug)]
 pub(super) struct Space {
@@ -89,22 +122,28 @@ pub(super) struct Space {
 type Refused = u32;
 
 impl Space {
-    pub(super) fn new(here: u16, spaces: u16, window: u64, retry: u64) -> Space {
+    /// A space whose life begins at a birth that is in range: with a session's number for each space.
+    pub(super) fn begin_at(here: u16, window: u64, retry: u64, birth: Birth<'_>) -> Space {
+        // Nothing is ever asked of the session in place 0.
+        let numbers = (0..).zip([1].iter().chain(birth.sessions));
+        let sessions = numbers
+            .map(|(peer, number)| Session::begin_at(here, peer, window, retry, *number))
+            .collect();
         Space {
             here,
-            spaces,
-            sessions: (0..=spaces).map(|peer| Session::new(here, peer, window, retry)).collect(),
-            table: Table::new(here),
+            spaces: birth.sessions.len() as u16,
+            sessions,
+            table: Table::begin_at(here, birth.indexes),
             pins: HashMap::new(),
             calls: HashMap::new(),
-            made: 0,
+            made: birth.calls,
             messages: BTreeMap::new(),
             acted: 0,
             settled: BTreeSet::new(),
             ready: VecDeque::new(),
             running: HashMap::new(),
             busy: BTreeSet::new(),
-            claimed: 0,
+            claimed: birth.jobs,
             ready_replies: 0,
         }
     }

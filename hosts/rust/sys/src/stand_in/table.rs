@@ -5,7 +5,8 @@ use std::collections::{BTreeMap, BTreeSet, HashMap, HashSet};
 
 /// So many objects are live at once, and so many surrogates.
 pub(super) const MOST_LIVE: usize = 65_536;
-const LAST_INDEX: u64 = 1 << 48;
+/// The greatest index.
+pub(super) const LAST_INDEX: u64 = 1 << 48;
 const MOST_IN_HAND: u64 = u32::MAX as u64;
 
 #[derive(Clone, Copy, Debug, Default)]
@@ -57,10 +58,11 @@ pub(super) struct Table {
 }
 
 impl Table {
-    pub(super) fn new(here: u16) -> Table {
+    /// The table of a space that gave so many indexes before, of which no object is live.
+    pub(super) fn begin_at(here: u16, exported: u64) -> Table {
         Table {
             here,
-            exported: 0,
+            exported,
             live: HashMap::new(),
             others: HashMap::new(),
             listed: std::array::from_fn(|_| HashSet::new()),

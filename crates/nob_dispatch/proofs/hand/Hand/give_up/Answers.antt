@@ -10,7 +10,7 @@ invariant_of-self g c =
     let hand = c.self.inside in let back = c.in-Some.back in
     let from = c.in-Some.ensures.back in
     let had = subst (λ (at : Option (ℕ × ℕ)). Follows hand.returns.has_heard_gone at (places (reverse (taken hand.errands))) (returned (reverse (given hand.returns)))) (same_place hand.worker.running back.job back.index from.1 from.2) c.self.invariant.1 in
-    frees_tied (serving_of hand) c.args.error c.give_up.new.self (given c.send_back.new.returns) c.send_back.new.returns.has_heard_gone c.give_up.ensures.freed c.requires (c.send_back.ensures _ had) c.self.invariant
+    frees_tied (serving_of hand) c.args.error c.give_up.new.self (given c.send_back.new.returns) c.send_back.new.returns.has_heard_gone c.give_up.ensures.freed c.requires (c.send_back.ensures.follows _ had) c.self.invariant
 
 pub invariant_of-self-in_default : goal.invariant_of-self-in_default
 invariant_of-self-in_default g c =

@@ -1,3 +1,4 @@
+use Rattle.nob_dispatch_lanes.specs.Ends.{stake_of}
 use Rattle.nob_dispatch.specs.Serving.{given, taken}
 use Rattle.nob_dispatch.specs.Sides.{serving_of}
 use Rattle.nob_dispatch.proofs.Follows.{gets_tied}
@@ -12,6 +13,7 @@ returns-clause-got g c = rw (← c.self.view_is) (λ none is. (
     worker = c.in-Ok.ensures.took i;
     fault = c.self.inside.fault;
     is_alone = c.self.inside.returns.has_heard_gone;
+    stakes = record { errands = c.in-Some.ensures.stake i; returns = stake_of c.self.inside.returns.pass };
   },
 ))
 

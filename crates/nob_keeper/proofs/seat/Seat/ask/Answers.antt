@@ -1,5 +1,7 @@
-use Rattle.std.proofs.Common.{◌≡◌, ◌∷◌, [], ◌++◌, List, reverse, sym, ap, subst, ◌∙◌}
+use Rattle.std.proofs.Common.{◌≡◌, ℕ, ◌∷◌, [], ◌++◌, List, reverse, refl, sym, ap, subst, ◌∙◌}
 use Rattle.nob_keeper.specs.declared.receipt.Receipt.{Receipt}
+use Rattle.nob_keeper.specs.Accounts.{Account, with_next, with_noted}
+use Rattle.nob_keeper.specs.Receipts.{entry_of}
 use Rattle.nob_keeper.specs.Seats as seats
 use Rattle.nob_keeper.proofs.Seats.{receipts_next, above_next, stamp_above, newest_same}
 use Rattle.nob_keeper.proofs.Spots.{stays_newest}
@@ -29,9 +31,18 @@ returns-clause-adds c =
     let next = (c.in_ok-receipt.ensures {u = tt}).next in
     (c.in_ok-receipt.receipt, added c, next.event_is, stamp_above _ c.args.seen c.in_ok-receipt.receipt.stamp next.stamp, above c)
 
+-- it is that of the next entry
+next : (c : goal.After-add) → seats.AddsNextOf c.args.kept.now c.in_ok-receipt.receipt c.args.self.now (reverse c.add.new.receipts.items) c.args.event.now c.args.seen
+next c = record { added = added c; is_account = (c.in_ok-spot.ensures {u = tt}).account; has = (c.in_ok-spot.ensures {u = tt}).ok; next = (c.in_ok-receipt.ensures {u = tt}).next }
+
 pub returns-clause-next : goal.returns-clause-next
-returns-clause-next c =
-    (c.in_ok-receipt.receipt, c.args.kept.now, added c, (c.in_ok-spot.ensures {u = tt}).account, (c.in_ok-spot.ensures {u = tt}).ok, (c.in_ok-receipt.ensures {u = tt}).next)
+returns-clause-next c = (c.args.kept.now, c.in_ok-receipt.receipt, refl, next c)
+
+pub returns-clause-entry : goal.returns-clause-entry
+returns-clause-entry c =
+    let receipt = c.in_ok-receipt.receipt in
+    let after = (c.in_ok-receipt.ensures {u = tt}).entry in
+    (receipt, next c, after ∙ ap (λ (noted : List ℕ). with_noted noted (with_next c.args.kept.now (entry_of receipt))) (sym (ap (λ (account : Account). account.noted) after)))
 
 pub returns-clause-stays : goal.returns-clause-stays
 returns-clause-stays c =

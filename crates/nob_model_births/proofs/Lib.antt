@@ -1,0 +1,3 @@
+pub mod Words
+pub mod Trips
+pub mod Reached

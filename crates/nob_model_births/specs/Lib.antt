@@ -1,0 +1,2 @@
+pub use Rattle.nob_model_lives.specs.Births
+pub mod Reached

@@ -1,0 +1,11 @@
+pub mod Leads
+pub mod Closes
+pub mod Finishes
+pub mod Releases
+pub mod Takes
+pub mod Withdraws
+pub mod Skips
+pub mod Opens
+pub mod Born
+pub mod Passes
+pub mod Bridge

@@ -1,0 +1,10 @@
+pub mod Ends
+pub mod Answers
+pub mod Born
+pub mod InStep
+pub mod EndsStep
+pub mod Steps
+pub mod Working
+pub mod Sending
+pub mod BornInStep
+pub mod Life
