@@ -4,6 +4,7 @@
 // are patterns beside colours, the words in which an entry is spelt out, and bytes as text.
 
 const ROW = 16; // from one row to the next
+const COLUMN = 290; // from one lifeline to the next, where no more than three bars stand beside each other: the longest words fit in
 const OVER = 40; // rows that are drawn above those in view, and below them
 const CUT_TEXT = 64, CUT_WORDS = 34; // how long the text of a row and the words of an arrow are where they were cut
 const SVG = 'http://www.w3.org/2000/svg';
@@ -209,13 +210,13 @@ function choose() {
   for (const bar of state.bars) used[bar.space].add(bar.lane);
   state.lanes = used.map(it => new Map([...it].sort((a, b) => a - b).map((lane, i) => [lane, i])));
   state.column = 470 + 7 * Math.max(0, String(numberOf(all)).length - 4);
-  state.width = state.column - 220;
+  let x = state.column + 30;
   state.columns = state.lanes.map((lanes, space) => {
-    const more = Math.max(0, 11 * lanes.size - 36);
-    state.width += 250 + (space > 0 ? more : 0);
-    return { x: state.width - more, more };
+    const it = { x, more: Math.max(0, 11 * lanes.size - 36) };
+    if (space > 0) x += COLUMN + it.more;
+    return it;
   });
-  state.width += 120;
+  state.width = x - 120;
   say(life);
   resize();
   find();
@@ -358,7 +359,7 @@ function draw() {
   }
   for (const it of run.lost) {
     if (!isNear(it) || !isShown(it.start)) continue;
-    const end = it.right ? x(it.from) + state.columns[it.from].more + 80 : x(it.from) - 40, down = y(it.start) + it.down;
+    const end = it.right ? x(it.from) + state.columns[it.from].more + 48 : x(it.from) - 40, down = y(it.start) + it.down;
     const line = { x1: x(it.from), y1: y(it.start), x2: end, y2: down }, of = { 'data-of': `lost${it.number}` };
     layers.lines.push(make('line', { class: it.style, ...of, ...line }), make('path', { class: 'cross', d: `M${end - 4},${down - 4} l8,8 m0,-8 l-8,8` }));
     layers.touch.push(make('line', { class: 'touch', 'data-lost': it.number, ...line }));
