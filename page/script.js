@@ -305,7 +305,7 @@ function resize() {
   for (let space = 1; space <= run.spaces; space++) {
     names.append(make('text', { class: 'name', x: state.columns[space].x * state.zoom, y: 17 }, `space ${space}`));
   }
-  corner.style.width = `${(state.column - 8) * state.zoom}px`;
+  corner.style.width = `${Math.max(0, (state.column + 30) * state.zoom - 40)}px`;
   corner.textContent = 'row, space, what it was asked = what it answered';
   part('names').replaceChildren(names, corner);
 }
