@@ -233,11 +233,17 @@ function say(life) {
   part('all').hidden = how.length === 0;
 }
 
+// What is searched of a row, made when it is first wanted.
+function searched(row) {
+  row.searched = row.searched || (row.text + textsIn(row.text)).toLowerCase();
+  return row.searched;
+}
+
 // Looks among the rows shown for what is typed: words in a row's text, a reference, or a row's number.
 function find() {
   const wanted = part('find').value.trim().toLowerCase(), life = /^\d+\.\d+$/.test(wanted) ? lifeOf(wanted) : null;
   const isFound = life ? place => life.has(place) : /^#\d+$/.test(wanted) ? place => `#${numberOf(place)}` === wanted
-    : place => (run.rows[place - 1].text + textsIn(run.rows[place - 1].text)).toLowerCase().includes(wanted);
+    : place => searched(run.rows[place - 1]).includes(wanted);
   state.hits = wanted ? state.places.filter(isFound) : [];
   state.isHit = new Set(state.hits);
   state.current = -1;
