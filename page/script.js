@@ -78,8 +78,7 @@ function namesIn(text, space, cut) {
 }
 
 function isNamed(text, space, cut, ref) {
-  const maybe = text.includes(ref) || (ref.startsWith(`${space}.`) && / (withdraw|on) \d/.test(text));
-  return maybe && namesIn(text, space, cut).some(it => it.ref === ref);
+  return (text.includes(ref) || / (withdraw|on) \d/.test(text)) && namesIn(text, space, cut).some(it => it.ref === ref);
 }
 
 // The places of a reference's life: of the rows that name it, and of both ends of the arrows and bars whose words do.
@@ -204,16 +203,17 @@ function choose() {
     state.at[i + 1] = is ? state.places.push(i + 1) : state.places.length + 0.5;
   });
   state.at[all + 1] = state.places.length + 1;
-  // the lanes that are used, and columns as wide as these need
+  // the lanes that are used, and columns as wide as these need; a life has none of the spaces that have no part in it
   state.bars = life ? run.bars.filter(it => it.ref === state.life) : run.bars;
-  const used = Array.from({ length: run.spaces + 1 }, () => new Set());
+  const used = Array.from({ length: run.spaces + 1 }, () => new Set()), parts = new Set(state.places.map(place => run.rows[place - 1].space));
+  for (const it of run.arrows) if (isShown(it.start) && isShown(it.end)) parts.add(it.from).add(it.to);
   for (const bar of state.bars) used[bar.space].add(bar.lane);
   state.lanes = used.map(it => new Map([...it].sort((a, b) => a - b).map((lane, i) => [lane, i])));
   state.column = 470 + 7 * Math.max(0, String(numberOf(all)).length - 4);
   let x = state.column + 30;
   state.columns = state.lanes.map((lanes, space) => {
-    const it = { x, more: Math.max(0, 11 * lanes.size - 36) };
-    if (space > 0) x += COLUMN + it.more;
+    const it = { x, more: Math.max(0, 11 * lanes.size - 36), space, isThere: space > 0 && (!life || parts.has(space) || lanes.size > 0) };
+    if (it.isThere) x += COLUMN + it.more;
     return it;
   });
   state.width = x - 120;
@@ -262,10 +262,12 @@ function step(steps) {
   show(state.hits[state.current]);
 }
 
-// Brings a row into the middle of what is in view, and spells it out.
+// Brings a row into the middle of what is in view, and its point into view, and spells it out.
 function show(place) {
+  const x = state.columns[run.rows[place - 1].space].x * state.zoom, left = view.scrollLeft;
   state.chosen = place;
   view.scrollTop = state.at[place] * scale() - view.clientHeight / 2;
+  if (x < left + state.column * state.zoom || x > left + view.clientWidth - 20) view.scrollLeft = x - 0.7 * view.clientWidth;
   drawAnew();
   tell({ row: place });
 }
@@ -308,9 +310,7 @@ function resize() {
   part('sheet').style.width = `${state.width * state.zoom}px`;
   part('sheet').style.height = `${(state.places.length + 2) * scale()}px`;
   const names = make('svg', { width: state.width * state.zoom, height: 24 }), corner = document.createElement('b');
-  for (let space = 1; space <= run.spaces; space++) {
-    names.append(make('text', { class: 'name', x: state.columns[space].x * state.zoom, y: 17 }, `space ${space}`));
-  }
+  for (const it of state.columns) if (it.isThere) names.append(make('text', { class: 'name', x: it.x * state.zoom, y: 17 }, `space ${it.space}`));
   corner.style.width = `${Math.max(0, (state.column + 30) * state.zoom - 40)}px`;
   corner.textContent = 'row, space, what it was asked = what it answered';
   part('names').replaceChildren(names, corner);
@@ -350,7 +350,7 @@ function draw() {
     layers.lives.push(make('line', { class: 'guide', x1: state.column, y1: at, x2: x(row.space), y2: at }));
     layers.dots.push(dot(row.kind, x(row.space), at));
   }
-  for (let space = 1; space <= run.spaces; space++) layers.lives.push(make('line', { class: 'life', x1: x(space), y1: 0, x2: x(space), y2: high - ROW }));
+  for (const it of state.columns) if (it.isThere) layers.lives.push(make('line', { class: 'life', x1: it.x, y1: 0, x2: it.x, y2: high - ROW }));
   for (const bar of state.bars) if (isNear(bar)) drawBar(layers.bars, bar, y, top, high);
   const boxes = [];
   for (const it of run.arrows) {
@@ -397,7 +397,7 @@ function write(layer, boxes, words, before, x, heights, of) {
   const y = heights.find(at => !boxes.some(it => left < it.right && it.left < left + across && Math.abs(at - it.y) < 11));
   if (y === undefined) return;
   boxes.push({ left, right: left + across, y });
-  layer.push(make('text', { class: before ? 'words before' : 'words', x, y, ...of }, ...withRefs(words, 0, CUT_WORDS)));
+  layer.push(make('rect', { class: 'paper', x: left, y: y - 9, width: across, height: 11 }), make('text', { class: before ? 'words before' : 'words', x, y, ...of }, ...withRefs(words, 0, CUT_WORDS)));
 }
 
 // Where the run is refused, closed and wrong, and where hits are: bits for each point of the strip at the right.
