@@ -144,7 +144,7 @@ const REFUSALS = {
 function sentence(sentences, text, space) {
   for (const [form, words] of sentences) {
     const it = form.exec(text);
-    if (it) return words.replace(/\{space\}|\{reason\}|\$(\d)/g, (all, n) => n ? it[n] : all === '{space}' ? space : REASONS[it[1]] || `of ${it[1]}`);
+    if (it) return words.replace(/\{space\}|\{reason\}|\$(\d)/g, (all, n) => n ? it[n] : all === '{space}' ? space : REASONS[it[1]] || `the reason is ${it[1]}`);
   }
   return text;
 }
@@ -181,7 +181,7 @@ const view = part('view'), picture = part('picture'), overview = part('overview'
 const state = {
   life: null, filters: {}, zoom: 1, // what was asked for
   places: [], at: null, bars: [], lanes: [], columns: [], column: 470, width: 0, // where what is shown stands
-  hits: [], isHit: new Set(), current: -1, chosen: 0, held: null, pointed: null, drawn: [1, 0],
+  hits: [], isHit: new Set(), current: -1, chosen: 0, held: null, pointed: null, drawn: null,
 };
 let run, marks = [];
 
@@ -317,7 +317,7 @@ function resize() {
 }
 
 function drawAnew() {
-  state.drawn = [1, 0];
+  state.drawn = null;
   draw();
 }
 
@@ -326,7 +326,7 @@ function draw() {
   const first = Math.max(1, Math.floor(scrolled / scale())), last = Math.min(count, Math.ceil((scrolled + height) / scale()));
   part('names').firstChild.style.left = `${-view.scrollLeft}px`;
   mark(first, last);
-  if (state.drawn[0] <= first && last <= state.drawn[1]) return;
+  if (state.drawn && state.drawn[0] <= first && last <= state.drawn[1]) return;
   const from = Math.max(1, first - OVER), to = Math.min(count, last + OVER);
   state.drawn = [from, to];
 
@@ -590,7 +590,7 @@ function start() {
   listen();
   const wrong = run.rows.findIndex(it => it.kind === 'fault') + 1;
   title(part('of').dataset, wrong);
-  if (wrong > 0) show(wrong);
+  if (wrong > 0 && !location.hash) show(wrong);
   obey();
 }
 
