@@ -106,9 +106,8 @@ const REASONS = ['', 'it was asked to', 'the peer closed', 'the retries are used
   'a bad reference came', 'an item came out of place'];
 
 const EVENTS = [
-  [/^export$/, 'makes an object'], [/^claim$/, 'claims a job'],
-  [/^settle$/, 'looks for a message whose references are all resolved'],
-  [/^clean$/, 'looks for a reference that it uses no more'],
+  [/^export$/, 'makes an object'], [/^claim$/, 'claims a job'], [/^arrive (.*)$/, 'receives {frame}'],
+  [/^settle$/, 'looks for a message whose references are all resolved'], [/^clean$/, 'looks for a reference that it uses no more'],
   [/^dup (\S+)$/, 'holds $1 once more'], [/^release (\S+)$/, 'holds $1 once less'],
   [/^call (\S+) (\d+) (.*)$/, 'calls method $2 of $1 with $3'], [/^take (\d+)$/, 'takes the reply to its call $1'],
   [/^finish (\d+) answer (.*)$/, 'ends job $1 with the answer $2'], [/^finish (\d+) fault (.*)$/, 'ends job $1 with the fault $2'],
@@ -116,7 +115,15 @@ const EVENTS = [
   [/^act (\d+)$/, 'acts on the next item from space $1'], [/^send (\d+)$/, 'transmits to space $1'],
   [/^tick (\d+)$/, 'ticks its session with space $1'], [/^close (\d+)$/, 'closes its session with space $1'],
   [/^open (\d+)$/, 'opens its session with space $1 anew'], [/^withdraw (\d+)$/, 'withdraws its object {space}.$1'],
-  [/^arrive (.*)$/, 'is reached by a frame, $1'],
+];
+
+const FRAMES = [
+  [/^Call (\S+) (\d+) (.*)$/, 'a call of method $2 of $1 with $3'], [/^Settle (\d+)$/, 'word that the references of item $1 are resolved'],
+  [/^Reply (\d+) 0 (.*)$/, 'the answer to call $1, which is $2'], [/^Reply (\d+) 1 (.*)$/, 'the fault of call $1, which is $2'],
+  [/^Reply (\d+) 2 .*$/, 'word that there is no method for call $1'], [/^Reply (\d+) 3 .*$/, 'word that a reference of call $1 was lost'],
+  [/^Dirty (\S+)$/, 'the wish to be listed for $1'], [/^DirtyOk (\S+)$/, 'word that it is listed for $1'],
+  [/^DirtyNo (\S+)$/, "word that $1 isn't live"], [/^Clean (\S+)$/, 'word that $1 is used no more'],
+  [/^Ack (\d+)$/, 'word that the items before item $1 were accepted'], [/^Close (\d)$/, 'word that the session has closed, since {reason}'],
 ];
 
 const ANSWERS = [
@@ -127,8 +134,8 @@ const ANSWERS = [
   [/^finished$/, 'the reply is handed over'], [/^dropped$/, 'the reply is dropped, since the session of its call is over'],
   [/^acted (\d+)$/, 'it was item $1'], [/^closed (\d)$/, 'the session closes here, since {reason}'], [/^opened (\d+)$/, 'session $1 begins here'],
   [/^settled (\d+) (\d+)$/, 'that is item $2 from space $1, and it says so'], [/^cleaned (\S+)$/, 'it gives $1 up'],
-  [/^took 0$/, 'no item was accepted by that'], [/^took 1$/, 'one item was accepted by that'],
-  [/^took (\d+)$/, '$1 items were accepted by that'], [/^none$/, 'there was nothing to give'],
+  [/^took 0$/, 'no item is accepted by that'], [/^took 1$/, 'one item is accepted by that'],
+  [/^took (\d+)$/, '$1 items are accepted by that'], [/^none$/, 'there was nothing to give'],
 ];
 
 const REFUSALS = {
@@ -144,7 +151,8 @@ const REFUSALS = {
 function sentence(sentences, text, space) {
   for (const [form, words] of sentences) {
     const it = form.exec(text);
-    if (it) return words.replace(/\{space\}|\{reason\}|\$(\d)/g, (all, n) => n ? it[n] : all === '{space}' ? space : REASONS[it[1]] || `the reason is ${it[1]}`);
+    const others = { '{space}': () => space, '{frame}': () => sentence(FRAMES, it[1]), '{reason}': () => REASONS[it[1]] || `the reason is ${it[1]}` };
+    if (it) return words.replace(/\{\w+\}|\$(\d)/g, (name, n) => n ? it[n] : others[name]());
   }
   return text;
 }
@@ -234,10 +242,7 @@ function say(life) {
 }
 
 // What is searched of a row, made when it is first wanted.
-function searched(row) {
-  row.searched = row.searched || (row.text + textsIn(row.text)).toLowerCase();
-  return row.searched;
-}
+const searched = row => row.searched || (row.searched = (row.text + textsIn(row.text)).toLowerCase());
 
 // Looks among the rows shown for what is typed: words in a row's text, a reference, or a row's number.
 function find() {
@@ -442,12 +447,7 @@ function pointedAt(event) {
   return name ? { [name]: Number(element.dataset[name]) } : null;
 }
 
-function link(words, hash) {
-  const it = document.createElement('a');
-  it.href = hash;
-  it.textContent = words;
-  return it;
-}
+const link = (words, hash) => Object.assign(document.createElement('a'), { href: hash, textContent: words });
 function rowLink(place, otherwise = 'a row outside of this drawing') {
   if (place < 1 || place > run.rows.length) return otherwise;
   return link(`row ${figure(numberOf(place))}`, `#${state.life ? `life=${state.life}&` : ''}row=${numberOf(place)}`);
@@ -466,7 +466,7 @@ function tell(lit) {
     lines.push([...came, ...gave, ...run.lost.filter(lost => lost.start === lit.row).map(lost => `${lost.words} never arrives. `)].flat());
   } else if (lit.bar === undefined) {
     lines.push([withTexts(it.words || 'a frame')]);
-    lines.push([`Given by space ${it.from} in `, rowLink(it.start), ...lit.lost === undefined ? [`, arrives at space ${it.to} in `, rowLink(it.end)] : [', never arrives'],
+    lines.push([it.words && `This is ${withTexts(sentence(FRAMES, it.words))}. `, `Given by space ${it.from} in `, rowLink(it.start), ...lit.lost === undefined ? [`, arrives at space ${it.to} in `, rowLink(it.end)] : [', never arrives'],
       it.style.includes('again') ? '; its item was given before' : '', it.style.includes('took-nothing') ? '; it took nothing when it came' : '', '.']);
   } else {
     const whose = it.words.split(' ').pop();
@@ -474,8 +474,7 @@ function tell(lit) {
     lines.push([it.words], [`${holds[it.style]}, after `, rowLink(it.start, 'a row above'), ' and until ', rowLink(it.end, 'a row below, or for good'), '. ', link(`Its life alone`, `#life=${it.ref}`)]);
   }
   part('told').replaceChildren(...lines.map((parts, i) => {
-    const paragraph = document.createElement('p');
-    paragraph.className = i === 0 ? 'said' : 'means';
+    const paragraph = Object.assign(document.createElement('p'), { className: i === 0 ? 'said' : 'means' });
     paragraph.append(...parts);
     return paragraph;
   }));
