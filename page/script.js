@@ -4,7 +4,7 @@
 // are patterns beside colours, the words in which an entry is spelt out, and bytes as text.
 
 const ROW = 16; // from one row to the next
-const COLUMN = 290; // from one lifeline to the next, where no more than three bars stand beside each other: the longest words fit in
+const COLUMN = 320; // from one lifeline to the next, where no more than three bars stand beside each other: the longest words fit between
 const OVER = 40; // rows that are drawn above those in view, and below them
 const CUT_TEXT = 64, CUT_WORDS = 34; // how long the text of a row and the words of an arrow are where they were cut
 const SVG = 'http://www.w3.org/2000/svg';
@@ -224,17 +224,19 @@ function choose() {
     if (it.isThere) x += COLUMN + it.more;
     return it;
   });
-  state.width = x - 120;
+  state.width = x - 150;
   say(life);
   resize();
   find();
 }
 
-// Says which rows are shown.
+// Says which rows are shown. The words of all frames that a row gives stand at its arrows and crosses, where its own text is cut.
 function say(life) {
   const all = counted(run.rows.length, 'row'), how = life ? [`the life of ${state.life}`] : [];
   for (const [name, word] of Object.entries(state.filters)) if (word !== 'shown') how.push(word === 'alone' ? `${name} alone` : `without ${name}`);
-  const cut = life ? run.rows.filter((row, i) => isCut(row.text, CUT_TEXT) && !life.has(i + 1)).length : 0;
+  const unsure = new Set([...run.arrows, ...run.lost].filter(it => it.words === '' || isCut(it.words, CUT_WORDS)).map(it => it.start));
+  const isUnsure = (row, place) => isCut(row.text, CUT_TEXT) && (!/^\d+ send /.test(row.text) || unsure.has(place));
+  const cut = life ? run.rows.filter((row, i) => isUnsure(row, i + 1) && !life.has(i + 1)).length : 0;
   const more = cut > 0 ? ` (${counted(cut, 'other row has a text', 'other rows have texts')} cut short, and may name it behind the cut)` : '';
   part('shown').textContent = how.length === 0 ? `all ${all}` : `showing ${figure(state.places.length)} of ${all}: ${how.join(', ')}${more}`;
   part('shown').className = how.length === 0 ? '' : 'part';
