@@ -1,6 +1,6 @@
 -- Where everything stands in a drawing. Rows count from 1 in merged order, and the newest entry of a journal stands FIRST.
 use Prim.Native.Nat.{zero}
-use Rattle.std.specs.Prelude.{ℕ, suc, ◌+◌, ◌*◌, ◌-◌, Bool, true, false, ◌&&◌, ◌==◌, nat_le, nat_lt, min, max, List, [], ◌∷◌, ◌++◌, map, filter, flat_map, codes, Option, Some, None, Result, Ok, Err, if◌then◌else◌}
+use Rattle.std.specs.Prelude.{ℕ, suc, ◌+◌, ◌*◌, ◌-◌, ◌/◌, Bool, true, false, ◌&&◌, ◌==◌, nat_le, nat_lt, min, max, List, [], ◌∷◌, ◌++◌, map, filter, flat_map, codes, Option, Some, None, Result, Ok, Err, if◌then◌else◌}
 use Rattle.std.specs.Fmt.{decimal}
 use Rattle.nob_model_types.specs.declared.answer.Answer.{Answer}
 use Rattle.nob_model_types.specs.declared.answer.Answer.TheVariants.{Closed}
@@ -125,9 +125,46 @@ head_words page arrow = if nat_lt arrow.departure.space arrow.to then shapes.Tex
 abbrev pub is_arrow_seen : Page → Arrow → Bool
 is_arrow_seen page arrow = is_seen page arrow.departure.row arrow.row
 
--- an arrow: from the lifeline of its Transmit to that of its Arrive
+-- how an arrow is drawn of which a part is shown: dotted, and grey where it took nothing
+abbrev pub part_style : (took_nothing : Bool) → Style
+part_style false = styles.Part
+part_style true = styles.PartTookNothing
+
+-- the same of an arrow whose head isn't shown
+abbrev pub open_style : (took_nothing : Bool) → Style
+open_style false = styles.Open
+open_style true = styles.OpenTookNothing
+
+-- how the line of an arrow looks: as the whole arrow where both its ends are shown, else as a part of it, without a head where that isn't shown
+abbrev pub line_style : Page → Arrow → Style
+line_style page arrow =
+    if is_shown page arrow.row
+    then (if is_shown page arrow.departure.row then arrow_style arrow.departure.again arrow.took_nothing else part_style arrow.took_nothing)
+    else open_style arrow.took_nothing
+
+-- how far to the right a line is that goes from one place to another in so many rows, once it has passed some of them
+abbrev pub slanted : (start end passed rows : ℕ) → ℕ
+slanted start end passed rows = if nat_le start end then start + (end - start) * passed / rows else start - (start - end) * passed / rows
+
+-- how many rows an arrow goes down
+abbrev pub rows_of : Arrow → ℕ
+rows_of arrow = max (arrow.row - arrow.departure.row) 1
+
+-- the point at a row of the line from its Transmit to its Arrive
+abbrev pub point_of : Page → Arrow → ℕ → Point
+point_of page arrow row = record { x = slanted (x_of arrow.departure.space) (x_of arrow.to) (row - arrow.departure.row) (rows_of arrow); y = y_of page row }
+
+-- the first row at which it is drawn: that of its Transmit, or the one above those that are shown
+abbrev pub first_row : Page → Arrow → ℕ
+first_row page arrow = max arrow.departure.row (page.from - 1)
+
+-- the last one: that of its Arrive, or the one below those that are shown
+abbrev pub last_row : Page → Arrow → ℕ
+last_row page arrow = min arrow.row (page.to + 1)
+
+-- an arrow: from the lifeline of its Transmit to that of its Arrive, as far as its rows are shown
 abbrev pub arrow_line : Page → Arrow → Shape
-arrow_line page arrow = shapes.Line (arrow_style arrow.departure.again arrow.took_nothing) (point_at page arrow.departure.space arrow.departure.row) (point_at page arrow.to arrow.row)
+arrow_line page arrow = shapes.Line (line_style page arrow) (point_of page arrow (first_row page arrow)) (point_of page arrow (last_row page arrow))
 
 -- the lines of the arrows that are seen
 abbrev pub arrows_lines : Page → List Arrow → List Shape

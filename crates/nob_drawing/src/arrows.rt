@@ -36,16 +36,76 @@ fn head_words(alloc: Global, page: &Page, arrow: &Arrow) -> Result<Shape, AllocE
     Ok(Shape::Text(Style::Behind, Point { x: x + 50, y }, words))
 }
 
+// How an arrow is drawn of which a part is shown.
+fn part_style(took_nothing: bool) -> Style
+    ensures { result ≡ spec.part_style took_nothing }
+{
+    if took_nothing {
+        return Style::PartTookNothing;
+    }
+    Style::Part
+}
+
+// How an arrow is drawn whose head isn't shown.
+fn open_style(took_nothing: bool) -> Style
+    ensures { result ≡ spec.open_style took_nothing }
+{
+    if took_nothing {
+        return Style::OpenTookNothing;
+    }
+    Style::Open
+}
+
+// How the line of an arrow looks.
+fn line_style(page: &Page, arrow: &Arrow) -> Style
+    ensures { result ≡ spec.line_style page.now arrow.now }
+{
+    if !is_shown(page, arrow.row) {
+        return open_style(arrow.took_nothing);
+    }
+    if !is_shown(page, arrow.departure.row) {
+        return part_style(arrow.took_nothing);
+    }
+    arrow_style(arrow.departure.again, arrow.took_nothing)
+}
+
+// How far to the right a line is that goes from one place to another in so many rows, once it has
+// passed some of them.
+fn slanted(start: u128, end: u128, passed: u128, rows: u128) -> u128
+    requires across { (start < 2 ^ 14) × (end < 2 ^ 14) }
+    requires down { (passed ≤ 2 ^ 65) × (1 ≤ rows) }
+    ensures { result ≡ spec.slanted start end passed rows }
+{
+    if start <= end {
+        return start + (end - start) * passed / rows;
+    }
+    start.saturating_sub((start - end) * passed / rows)
+}
+
+// The point of an arrow at a row.
+fn point_of(page: &Page, arrow: &Arrow, row: u128) -> Point
+    requires { row ≤ 2 ^ 65 }
+    ensures { result ≡ spec.point_of page.now arrow.now row }
+{
+    let from = arrow.departure.row as u128;
+    let rows = (arrow.row as u128).saturating_sub(from).max(1);
+    let start = x_of(arrow.departure.space);
+    Point {
+        x: slanted(start, x_of(arrow.to), row.saturating_sub(from), rows),
+        y: y_of(page, row),
+    }
+}
+
 // The line of an arrow.
 fn arrow_line(page: &Page, arrow: &Arrow) -> Shape
     ensures { result ≡ spec.arrow_line page.now arrow.now }
 {
-    let start = point_at(page, arrow.departure.space, arrow.departure.row as u128);
-    let end = point_at(page, arrow.to, arrow.row as u128);
+    let first = (arrow.departure.row as u128).max((page.from as u128).saturating_sub(1));
+    let last = (arrow.row as u128).min(page.to as u128 + 1);
     Shape::Line(
-        arrow_style(arrow.departure.again, arrow.took_nothing),
-        start,
-        end,
+        line_style(page, arrow),
+        point_of(page, arrow, first),
+        point_of(page, arrow, last),
     )
 }
 

@@ -38,6 +38,14 @@ pub enum Style {
     TookNothing,
     /// One that took nothing, whose item was given before.
     TookNothingAgain,
+    /// A frame that arrives, of whose arrow the beginning isn't shown.
+    Part,
+    /// One that took nothing.
+    PartTookNothing,
+    /// A frame whose arrival isn't shown.
+    Open,
+    /// One that took nothing.
+    OpenTookNothing,
     /// A frame that never arrives.
     Lost,
     /// One whose item was given before.

@@ -24,6 +24,8 @@ rect { stroke: none; }
 .sent { stroke: #1c4f9c; stroke-width: 1.6; marker-end: url(#head); }
 .took-nothing { stroke: #b4b4b4; marker-end: url(#grey); }
 .again { stroke-width: 0.7; }
+.part { stroke-dasharray: 2 3; }
+.open { stroke-dasharray: 2 3; marker-end: none; }
 .lost { stroke: #1c4f9c; stroke-width: 1.6; }
 .cross { stroke: #d00000; stroke-width: 1.6; }
 .live { fill: #a9d8a0; }
@@ -44,7 +46,7 @@ rect { stroke: none; }
 <text class='refused' x='12' y='42'>refused</text>
 <text class='closing' x='68' y='42'>closes a session</text>
 <text class='fault' x='184' y='42'>wrong</text>
-<text class='words' x='232' y='42'>thin: given before, grey: took nothing, cross: lost</text>
+<text class='words' x='232' y='42'>thin: given before, grey: took nothing, dotted: in part, cross: lost</text>
 ";
 
 // The name of a style.
@@ -64,6 +66,10 @@ fn class_name(style: Style) -> &'static str
         Style::Again => "sent again",
         Style::TookNothing => "sent took-nothing",
         Style::TookNothingAgain => "sent took-nothing again",
+        Style::Part => "sent part",
+        Style::PartTookNothing => "sent took-nothing part",
+        Style::Open => "sent open",
+        Style::OpenTookNothing => "sent took-nothing open",
         Style::Lost => "lost",
         Style::LostAgain => "lost again",
         Style::Cross => "cross",
