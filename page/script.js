@@ -46,7 +46,7 @@ function read(text) {
         // behind all else stand the words of the arrows whose heads are shown, in their order
         heads = heads || run.arrows.filter(arrow => arrow.end <= run.rows.length);
         if (headed === heads.length) throw new Error(`words without an arrow: ${line}`);
-        heads[headed++].words = words;
+        Object.assign(heads[headed++], { words, before: kind === 'words before' });
       }
     } else if ((it = LINE.exec(line))) {
       const [x, y, right, bottom] = it.slice(2).map(Number), start = placeAt(y), from = spaceAt(x);
@@ -323,10 +323,7 @@ function resize() {
   part('names').replaceChildren(names, corner);
 }
 
-function drawAnew() {
-  state.drawn = null;
-  draw();
-}
+const drawAnew = () => { state.drawn = null; draw(); };
 
 function draw() {
   const count = state.places.length, height = view.clientHeight, scrolled = Math.min(view.scrollTop, count * scale());
@@ -338,7 +335,8 @@ function draw() {
   state.drawn = [from, to];
 
   const top = from - 1, high = (to - from + 3) * ROW, wide = Math.max(state.width, view.clientWidth / state.zoom);
-  const y = place => (state.at[place] - top) * ROW, x = space => state.columns[space].x;
+  const y = place => (state.at[place] - top) * ROW, columns = state.columns;
+  const x = space => columns[Math.floor(space)].x + (columns[Math.ceil(space)].x - columns[Math.floor(space)].x) * (space % 1); // between two, where an arrow is cut
   const size = across => ({ width: across * state.zoom, height: high * state.zoom, viewBox: `0 0 ${across} ${high}`, style: `top: ${top * scale()}px` });
   const texts = make('svg', size(state.column)), shift = state.column - 470;
   for (const [key, value] of Object.entries(size(wide))) picture.setAttribute(key, value);
@@ -363,16 +361,17 @@ function draw() {
   for (const it of run.arrows) {
     if (!isNear(it) || !isShown(it.start) || !isShown(it.end)) continue;
     const { ends, ...line } = clipped(x(it.from), y(it.start), x(it.to), y(it.end), 0, high), passes = !isHere(it.start) && !isHere(it.end);
-    const head = ends ? { 'marker-end': it.style.includes('took-nothing') ? 'url(#grey)' : 'url(#head)' } : {};
+    const head = ends && it.end <= run.rows.length ? { 'marker-end': it.style.includes('took-nothing') ? 'url(#grey)' : 'url(#head)' } : {};
     layers.lines.push(make('line', { class: it.style + (passes ? ' passing' : ''), 'data-of': `arrow${it.number}`, ...line, ...head }));
     if (passes) continue;
     layers.touch.push(make('line', { class: 'touch', 'data-arrow': it.number, ...line }));
-    const before = it.from < it.to, place = before ? x(it.to) - 10 : x(it.to) + 50 + state.columns[it.to].more;
-    if (isHere(it.end)) write(layers.words, boxes, it.words, before, place, [y(it.end) + 9], { 'data-of': `arrow${it.number}`, 'data-arrow': it.number });
+    if (!isHere(it.end)) continue;
+    const place = it.before ? x(it.to) - 10 : x(it.to) + 50 + columns[it.to].more;
+    write(layers.words, boxes, it.words, it.before, place, [y(it.end) + 9], { 'data-of': `arrow${it.number}`, 'data-arrow': it.number });
   }
   for (const it of run.lost) {
     if (!isNear(it) || !isShown(it.start)) continue;
-    const end = it.right ? x(it.from) + state.columns[it.from].more + 48 : x(it.from) - 40, down = y(it.start) + it.down;
+    const end = it.right ? x(it.from) + columns[it.from].more + 48 : x(it.from) - 40, down = y(it.start) + it.down;
     const line = { x1: x(it.from), y1: y(it.start), x2: end, y2: down }, of = { 'data-of': `lost${it.number}` };
     layers.lines.push(make('line', { class: it.style, ...of, ...line }), make('path', { class: 'cross', d: `M${end - 4},${down - 4} l8,8 m0,-8 l-8,8` }));
     layers.touch.push(make('line', { class: 'touch', 'data-lost': it.number, ...line }));
@@ -450,8 +449,10 @@ function pointedAt(event) {
 }
 
 const link = (words, hash) => Object.assign(document.createElement('a'), { href: hash, textContent: words });
-function rowLink(place, otherwise = 'a row outside of this drawing') {
-  if (place < 1 || place > run.rows.length) return otherwise;
+const isInside = place => place >= 1 && place <= run.rows.length;
+const endOf = (place, by, space) => isInside(place) ? [`${by} space ${space} in `, rowLink(place)] : ['outside of this drawing'];
+function rowLink(place, otherwise) {
+  if (!isInside(place)) return otherwise;
   return link(`row ${figure(numberOf(place))}`, `#${state.life ? `life=${state.life}&` : ''}row=${numberOf(place)}`);
 }
 
@@ -463,12 +464,12 @@ function tell(lit) {
     lines.push([`${numberOf(lit.row)}  ${withTexts(it.text)}`]);
     lines.push([it.kind === 'fault' ? 'This is where the run is wrong, and nobj check says why. ' : '', withTexts(spelt(it)),
       isCut(it.text, CUT_TEXT) ? ' (The text of this row is cut short.)' : '']);
-    const came = run.arrows.filter(arrow => arrow.end === lit.row).map(arrow => [`The frame was given by space ${arrow.from} in `, rowLink(arrow.start), '. ']);
-    const gave = run.arrows.filter(arrow => arrow.start === lit.row).map(arrow => [`${arrow.words || 'A frame'} arrives at space ${arrow.to} in `, rowLink(arrow.end), '. ']);
+    const came = run.arrows.filter(arrow => arrow.end === lit.row).map(arrow => ['The frame was given ', ...endOf(arrow.start, 'by', arrow.from), '. ']);
+    const gave = run.arrows.filter(arrow => arrow.start === lit.row).map(arrow => [`${arrow.words || 'A frame'} arrives `, ...endOf(arrow.end, 'at', arrow.to), '. ']);
     lines.push([...came, ...gave, ...run.lost.filter(lost => lost.start === lit.row).map(lost => `${lost.words} never arrives. `)].flat());
   } else if (lit.bar === undefined) {
     lines.push([withTexts(it.words || 'a frame')]);
-    lines.push([it.words && `This is ${withTexts(sentence(FRAMES, it.words))}. `, `Given by space ${it.from} in `, rowLink(it.start), ...lit.lost === undefined ? [`, arrives at space ${it.to} in `, rowLink(it.end)] : [', never arrives'],
+    lines.push([it.words && `This is ${withTexts(sentence(FRAMES, it.words))}. `, 'Given ', ...endOf(it.start, 'by', it.from), ...lit.lost === undefined ? [', arrives ', ...endOf(it.end, 'at', it.to)] : [', never arrives'],
       it.style.includes('again') ? '; its item was given before' : '', it.style.includes('took-nothing') ? '; it took nothing when it came' : '', '.']);
   } else {
     const whose = it.words.split(' ').pop();
