@@ -793,7 +793,10 @@ fn a_node_looks_names_up_at_other_programs() {
 #[test]
 fn only_this_machine_is_spoken_to_without_tls() {
     let far = || Node::builder(id(1), Peers::none()).listen("0.0.0.0:0");
-    assert!(matches!(far().start(), Err(masttomato::NodeError::Insecure)));
+    let Err(error) = far().start() else { panic!("it listens everywhere") };
+    let sentence =
+        "an address isn't this machine's own: without TLS, Builder::insecure must allow that";
+    assert_eq!(error.to_string(), sentence);
     assert!(far().insecure().start().is_ok());
     let peers = Peers::none().with(id(1), "192.0.2.1:7000");
     let two = Node::builder(id(2), peers).start();
