@@ -35,7 +35,10 @@ const PATIENCE: Duration = Duration::from_secs(5);
 /// Where orders are placed.
 #[interface]
 pub trait Orders {
-    /// Orders so many of a thing: how many are left of it, or why they aren't ordered.
+    /// Orders so many of a thing: how many are left of it.
+    ///
+    /// # Errors
+    /// Why they aren't ordered, or that nobody knows.
     fn place(&mut self, thing: String, count: u32) -> Result<u32, String>;
 }
 

@@ -337,7 +337,7 @@ impl ClientCertVerifier for Verifier {
         between: &[Certificate],
         now: SystemTime,
     ) -> Result<ClientCertVerified, Error> {
-        let chain = [&[first.clone()], between].concat();
+        let chain = [std::slice::from_ref(first), between].concat();
         self.judge(&chain, now, Side::Client).map_err(error_of)?;
         Ok(ClientCertVerified::assertion())
     }
@@ -353,7 +353,7 @@ impl ServerCertVerifier for Verifier {
         _: &[u8],
         now: SystemTime,
     ) -> Result<ServerCertVerified, Error> {
-        let chain = [&[first.clone()], between].concat();
+        let chain = [std::slice::from_ref(first), between].concat();
         self.judge(&chain, now, Side::Server).map_err(error_of)?;
         Ok(ServerCertVerified::assertion())
     }

@@ -208,6 +208,8 @@ fn what_was_seen_cannot_be_said_again() {
     let Some(all) = certificates() else { return };
     let (owner, address) = owner(all);
     let seen = seen_of_a_member(all, address, b"a sound");
+    let has_left = || matches!(owner.session(id(2)), Session::Closed(_));
+    eventually("the owner has heard all of it", has_left);
     let before = owner.counts();
     for count in 1..=3 {
         let mut stream = TcpStream::connect(address).expect("it listens");
