@@ -173,14 +173,16 @@ fn main() -> Result<(), Box<dyn Error>> {
     let strangers = Strangers::to(address, kind, rate.parse()?)?;
     let time = Duration::try_from_secs_f64(seconds.parse::<f64>()? / f64::from(2 * TURNS))?;
     rate_of(&target, time)?;
-    let (mut without, mut with) = (0.0, 0.0);
+    let (mut without, mut with, mut they_came) = (0.0, 0.0, Duration::ZERO);
     for _ in 0..TURNS {
         without += rate_of(&target, time)? / f64::from(TURNS);
+        let since = Instant::now();
         strangers.come(true);
         with += rate_of(&target, time)? / f64::from(TURNS);
         strangers.come(false);
+        they_came += since.elapsed();
     }
-    let came = strangers.told.came.load(SeqCst) as f64 / (time * TURNS).as_secs_f64();
+    let came = strangers.told.came.load(SeqCst) as f64 / they_came.as_secs_f64();
     let turned_away = owner.counts().turned_away;
     println!("{without:.0} {with:.0} {came:.0} {turned_away}");
     Ok(())
