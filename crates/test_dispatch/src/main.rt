@@ -1,5 +1,6 @@
 //! The program `test_dispatch`: the dispatchers and workers of two spaces, in one thread, and then each
-//! line of the agent's table, told of each hold that it was made. No clause says that jobs are carried
+//! line of the agent's table, told of each hold that it was made; between them a pool ends, and what it left
+//! is gathered. No clause says that jobs are carried
 //! out: this run shows it.
 #![tactic(auto)]
 
@@ -8,6 +9,7 @@ mod name_rows;
 mod names;
 mod node;
 mod objects;
+mod pool;
 mod rows;
 
 use crate::rows::Laters;
@@ -26,6 +28,7 @@ fn main(rt: HostRuntime) -> ExitCode {
 // Runs the dispatchers and workers, and then the agent alone.
 fn run<R: Wait + Print>(rt: &R, alloc: Global) -> io::Result<()> {
     print_jobs(rt, alloc)?;
+    print_pool(rt, alloc)?;
     print_names(rt, alloc)
 }
 
@@ -51,6 +54,16 @@ fn print_jobs<R: Wait + Print>(rt: &R, alloc: Global) -> io::Result<()> {
         said(has_ended)
     )?;
     println!(rt; "each entry has its receipt: {}", said(ran.is_whole))
+}
+
+// Runs a pool that ends when an errand is in its lane, and prints what was left.
+fn print_pool<R: Wait + Print>(rt: &R, alloc: Global) -> io::Result<()> {
+    let Some(left) = pool::run(rt, alloc) else {
+        return println!(rt; "failed");
+    };
+    println!(rt; "errands that a pool left in its lane: {}", left.errands)?;
+    println!(rt; "objects that were on their way back: {}", left.objects)?;
+    println!(rt; "each entry has its receipt: {}", said(left.is_whole))
 }
 
 // Runs the lines of the agent's table, and prints what they say.

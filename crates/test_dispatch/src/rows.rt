@@ -85,7 +85,12 @@ pub(crate) fn run<R: Wait>(rt: &R, alloc: Global) -> Option<Ran> {
 
 // Ends a space. Whether each entry of its trace has its receipt.
 fn close(alloc: Global, polled: Polled, staff: Staff) -> bool {
-    let mut seats: Vec<Seat> = Vec::new(alloc);
+    close_all(polled, staff, Vec::new(alloc))
+}
+
+/// Ends a space, with more seats than those of its staff. Whether each entry of its trace has its
+/// receipt.
+pub(crate) fn close_all(polled: Polled, staff: Staff, mut seats: Vec<Seat>) -> bool {
     let is_ended = staff.end(&mut seats).is_some();
     let Polled { keeper } = polled;
     match keeper.close_with(seats) {
@@ -298,8 +303,8 @@ impl Both {
     }
 }
 
-// A reference.
-fn reference(owner: u16, index: u64) -> Option<WireRep> {
+/// A reference.
+pub(crate) fn reference(owner: u16, index: u64) -> Option<WireRep> {
     let owner = SpaceId::new(owner)?;
     Some(WireRep { owner, index })
 }
@@ -313,8 +318,8 @@ fn named(alloc: Global, name: &[u8; 1], rep: WireRep) -> Option<Value> {
     Some(Value::List(Values::from_vec(values)))
 }
 
-// Makes a call: its number.
-fn ask<R: Wait>(
+/// Makes a call: its number.
+pub(crate) fn ask<R: Wait>(
     rt: &R,
     polled: &Polled,
     staff: &mut Staff,
