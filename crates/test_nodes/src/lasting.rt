@@ -1,45 +1,25 @@
 //! Two nodes that keep nothing of their entries, and what these come to.
 
-use crate::player::{Said, found, give_back, offer, said_by};
-use crate::shared::Shared;
+use crate::calling::{Refusals, Said, found, give_back, offer, said_by};
 use crate::thing::Thing;
-use nob_fault::Shim;
-use nob_ids::{Limits, SpaceId};
-use nob_link::link;
-use nob_node::{App, Config, Ends, Hold, Keep, Node, OpenGate, Record, Report, Summary, run};
+use nob_node::{Hold, Node, Record};
 use nob_pickle::Value;
+use nob_two_nodes::{Partner, Player, run_two};
 use std::alloc::Global;
 use std::sync::Wait;
-use std::thread::{self, Threads};
+use std::thread::Threads;
 
 /// So many calls are made.
-pub(crate) const CALLS: u64 = 20_000;
+const CALLS: u64 = 20_000;
 
 /// Each node makes more entries than this: five for each call.
 const ENTRIES: u64 = 60_000;
 
-/// So many parcels a link holds.
-const LINK: usize = 64;
-
 /// How often both applications meet.
-const MEETINGS: u64 = 2;
+const MEETINGS: u32 = 2;
 
 /// The name of the object that is called.
 const NAME: &[u8] = b"one";
-
-/// What is left of a node, in numbers.
-#[derive(Clone, Copy, Debug)]
-struct Numbers {
-    // How many calls it made that were answered, and what the last one answered.
-    answered: u64,
-    last: i64,
-    entries: u64,
-    live: u64,
-    // What it handed to the other, and of that one's what it acted on.
-    sent: u64,
-    acted: u64,
-    is_open: bool,
-}
 
 /// What both nodes come to, whatever their schedule.
 #[derive(Clone, Copy, Debug)]
@@ -56,182 +36,116 @@ pub(crate) struct Lasted {
     pub(crate) live: u64,
     /// Whether the session is open at both.
     pub(crate) is_open: bool,
+    /// How many calls the nodes refused.
+    pub(crate) refused: u64,
 }
 
-/// An application: it has the object, or it calls it.
+/// The application that has the object.
 #[derive(Drop)]
-struct Player<'m> {
-    shared: &'m Shared,
-    owns: bool,
-    came: u64,
+struct Owner {
+    refusals: Refusals,
+}
+
+impl Player<Thing> for Owner {
+    // Has the object until it was called, and waits until it is withdrawn.
+    fn run<R: Wait>(&mut self, rt: &R, node: &mut Node<Thing>, partner: &mut Partner) {
+        let hold = offer(rt, node, &mut self.refusals, NAME, Thing::Counter(0));
+        partner.meet(rt);
+        partner.meet(rt);
+        let Some(hold) = hold else {
+            return;
+        };
+        let index = hold.rep().index;
+        let unbound = self.refusals.answered(node.unbind(rt, NAME));
+        give_back(rt, node, &mut self.refusals, Some(hold));
+        if unbound.is_some() {
+            node.wait_withdrawn(rt, index);
+        }
+    }
+}
+
+/// The application that calls it.
+#[derive(Drop)]
+struct Caller {
+    refusals: Refusals,
+    // How many calls were answered, and what the last one answered.
     answered: u64,
     last: i64,
 }
 
-impl<'m> Player<'m> {
-    // Comes to a meeting and waits for the other.
-    fn meet<R: Wait>(&mut self, rt: &R) {
-        self.came = self.came.saturating_add(1);
-        self.shared.come(rt, 1);
-        self.shared.wait(rt, self.came.saturating_mul(2));
-    }
-
-    // Leaves nobody waiting for this one.
-    fn leave<R: Wait>(&mut self, rt: &R) {
-        self.shared.come(rt, MEETINGS.saturating_sub(self.came));
-        self.came = MEETINGS;
-    }
-
-    // Has the object until it was called, and waits until it is withdrawn.
-    fn own<R: Wait>(&mut self, rt: &R, node: &mut Node<Thing>) {
-        let hold = offer(rt, node, NAME, Thing::Counter(0));
-        self.meet(rt);
-        self.meet(rt);
-        if let Some(hold) = hold {
-            let index = hold.rep().index;
-            let is_unnamed = node.unbind(rt, NAME).is_ok();
-            give_back(rt, node, Some(hold));
-            if is_unnamed {
-                node.wait_withdrawn(rt, index);
-            }
-        }
-    }
-
-    // Looks the object up, calls it so often, and gives it back.
-    fn call<R: Wait>(&mut self, rt: &R, node: &mut Node<Thing>) {
-        self.meet(rt);
-        let hold = found(rt, node, NAME);
-        self.call_each(rt, node, &hold);
-        give_back(rt, node, hold);
-        self.meet(rt);
-    }
-
+impl Caller {
     // Makes its calls.
     fn call_each<R: Wait>(&mut self, rt: &R, node: &mut Node<Thing>, hold: &Option<Hold>) {
         for _ in 0..CALLS {
-            let Said::Number(number) = said_by(rt, node, hold, Value::Unit) else {
+            let said = said_by(rt, node, &mut self.refusals, hold, 0, Value::Unit);
+            let Said::Number(number) = said else {
                 return;
             };
             self.answered = self.answered.saturating_add(1);
             self.last = number;
         }
     }
+}
 
-    // What is left of its node.
-    fn numbers_of(&self, summary: &Summary) -> Option<Numbers> {
-        let [session] = summary.peers.as_slice() else {
-            return None;
-        };
-        Some(Numbers {
-            answered: self.answered,
-            last: self.last,
-            entries: summary.entries,
-            live: summary.live,
-            sent: session.tally.sent,
-            acted: session.tally.acted,
-            is_open: session.tally.closed.is_none(),
-        })
+impl Player<Thing> for Caller {
+    // Looks the object up, calls it so often, and gives it back.
+    fn run<R: Wait>(&mut self, rt: &R, node: &mut Node<Thing>, partner: &mut Partner) {
+        partner.meet(rt);
+        let hold = found(rt, node, &mut self.refusals, partner.space(), NAME).ok();
+        self.call_each(rt, node, &hold);
+        give_back(rt, node, &mut self.refusals, hold);
+        partner.meet(rt);
     }
 }
 
-impl<'m> App<Thing> for Player<'m> {
-    fn run<R: Wait>(&mut self, rt: &R, node: &mut Node<Thing>) {
-        if self.owns {
-            self.own(rt, node);
-        } else {
-            self.call(rt, node);
-        }
-    }
-
-    fn skip<R: Wait>(&mut self, rt: &R) {
-        self.leave(rt);
-    }
+/// What is left of a node, in numbers.
+#[derive(Clone, Copy, Debug)]
+struct Numbers {
+    entries: u64,
+    live: u64,
+    // What it handed to the other, and of that one's what it acted on.
+    sent: u64,
+    acted: u64,
+    is_open: bool,
 }
 
-/// A node to run, and then what is left of it.
-#[derive(Drop)]
-struct Place {
-    alloc: Global,
-    config: Config,
-    ends: Option<Vec<Ends>>,
-    owns: bool,
-    left: Option<Numbers>,
-}
-
-impl Place {
-    // A node of two, with its ends of the links to the other. Only memory fails it.
-    fn new(alloc: Global, space: SpaceId, owns: bool, ends: Ends) -> Option<Place> {
-        let config = Config::new(space, 2, Limits::default(), 2, 8, 0)?;
-        let mut all = Vec::new(alloc);
-        all.push(ends).ok()?;
-        Some(Place {
-            alloc,
-            config: config.keeping(Keep::Nothing),
-            ends: Some(all),
-            owns,
-            left: None,
-        })
-    }
-
-    // Runs the node until its application has ended.
-    fn play<R: Threads + Wait + Sync>(&mut self, rt: &R, shared: &Shared) {
-        let Some(ends) = self.ends.take() else {
-            return;
-        };
-        let mut player = Player {
-            shared,
-            owns: self.owns,
-            came: 0,
-            answered: 0,
-            last: 0,
-        };
-        let done = run(rt, self.alloc, self.config, ends, &OpenGate, &mut player);
-        player.leave(rt);
-        if let Ok(report) = done {
-            let Report { record, objects: _ } = report;
-            if let Record::Summary(summary) = record {
-                self.left = player.numbers_of(&summary);
-            }
-        }
-    }
+// What is left of a node that kept nothing, one of two.
+fn numbers_of(record: &Record) -> Option<Numbers> {
+    let Record::Summary(summary) = record else {
+        return None;
+    };
+    let [session] = summary.peers.as_slice() else {
+        return None;
+    };
+    Some(Numbers {
+        entries: summary.entries,
+        live: summary.live,
+        sent: session.tally.sent,
+        acted: session.tally.acted,
+        is_open: session.tally.closed.is_none(),
+    })
 }
 
 /// Plays the scene. `None` where memory is wanted, or a thread can't be made.
 pub(crate) fn play_lasting<R: Threads + Wait + Sync>(rt: &R, alloc: Global) -> Option<Lasted> {
-    let first = SpaceId::new(1)?;
-    let second = SpaceId::new(2)?;
-    let (put_there, take_there) = link(alloc, LINK).ok()?;
-    let (put_back, take_back) = link(alloc, LINK).ok()?;
-    let ours = Ends::new(second, put_there, take_back, Shim::new(Vec::new(alloc)));
-    let theirs = Ends::new(first, put_back, take_there, Shim::new(Vec::new(alloc)));
-    let mut owner = Place::new(alloc, first, true, ours)?;
-    let mut caller = Place::new(alloc, second, false, theirs)?;
-    play_both(rt, &mut owner, &mut caller);
-    Some(both_of(owner.left?, caller.left?))
-}
-
-// Runs both nodes, a thread each.
-fn play_both<R: Threads + Wait + Sync>(rt: &R, owner: &mut Place, caller: &mut Place) {
-    let shared = Shared::new();
-    let shared = &shared;
-    thread::scope(thread::scope_env(), rt, |scope| {
-        if scope.spawn(move || owner.play(rt, shared)).is_err() {
-            shared.come(rt, MEETINGS);
-        }
-        if scope.spawn(move || caller.play(rt, shared)).is_err() {
-            shared.come(rt, MEETINGS);
-        }
-    });
-}
-
-// What both come to.
-fn both_of(owner: Numbers, caller: Numbers) -> Lasted {
-    Lasted {
-        answered: caller.answered,
-        last: caller.last,
-        is_beyond: owner.entries > ENTRIES && caller.entries > ENTRIES,
-        is_even: owner.sent == caller.acted && caller.sent == owner.acted,
-        live: owner.live.saturating_add(caller.live),
-        is_open: owner.is_open && caller.is_open,
-    }
+    let owner = Owner {
+        refusals: Refusals::new(),
+    };
+    let caller = Caller {
+        refusals: Refusals::new(),
+        answered: 0,
+        last: 0,
+    };
+    let (there, here) = run_two(rt, alloc, MEETINGS, owner, caller)?;
+    let owned = numbers_of(&there.report.record)?;
+    let called = numbers_of(&here.report.record)?;
+    Some(Lasted {
+        answered: here.player.answered,
+        last: here.player.last,
+        is_beyond: owned.entries > ENTRIES && called.entries > ENTRIES,
+        is_even: owned.sent == called.acted && called.sent == owned.acted,
+        live: owned.live.saturating_add(called.live),
+        is_open: owned.is_open && called.is_open,
+        refused: there.player.refusals.with(here.player.refusals).count(),
+    })
 }

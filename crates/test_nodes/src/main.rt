@@ -1,18 +1,26 @@
 //! The program `test_nodes`: scenes of two or three nodes in threads. No clause says that a call
-//! returns or that a node ends: these runs show it.
+//! returns or that a node ends: these runs show it. After each scene whose nodes keep all of their
+//! entries, their chains are checked.
 #![tactic(auto)]
 
+mod calling;
+mod carrier;
 mod lasting;
 mod player;
 mod reopening;
 mod running;
+mod saying;
 mod shared;
 mod thing;
+mod unbinding;
+mod verdict;
 
 use crate::lasting::play_lasting;
-use crate::player::{Part, Said};
-use crate::reopening::{Reopened, play_reopening};
-use crate::running::{play, play_alone};
+use crate::player::Part;
+use crate::reopening::play_reopening;
+use crate::running::{play, play_alone, play_cut};
+use crate::saying::{say, say_lasting, say_reopening, say_unbinding};
+use crate::unbinding::play_unbinding;
 use std::alloc::Global;
 use std::io;
 use std::process::ExitCode;
@@ -26,80 +34,57 @@ fn main(rt: HostRuntime) -> ExitCode {
     }
 }
 
-// Plays all scenes, and prints what the calls came to.
+// Plays all scenes, and prints what they came to.
 fn run<R: Threads + Wait + Sync + Print>(rt: &R, alloc: Global) -> io::Result<()> {
+    run_held(rt, alloc)?;
+    let nested = play(rt, alloc, &[Part::Owns, Part::CallsBack]);
+    say(
+        rt,
+        &nested,
+        &[("an object that calls its caller's, twice", 1)],
+    )?;
+    let alone = play_alone(rt, alloc);
+    say(
+        rt,
+        &alone,
+        &[("a call over a link whose other end is let go", 1)],
+    )?;
+    let cut = play_cut(rt, alloc);
+    say(
+        rt,
+        &cut,
+        &[(
+            "a call whose links are let go while its method is held up",
+            1,
+        )],
+    )?;
+    say_lasting(rt, play_lasting(rt, alloc))?;
+    say_reopening(rt, play_reopening(rt, alloc))?;
+    say_unbinding(rt, play_unbinding(rt, alloc))
+}
+
+// Plays the scenes in which a method is held up.
+fn run_held<R: Threads + Wait + Sync + Print>(rt: &R, alloc: Global) -> io::Result<()> {
     let gate = play(rt, alloc, &[Part::Owns, Part::CallsHeld, Part::CallsOther]);
-    print(rt, "another object, while a method is held up", &gate, 2)?;
-    print(rt, "the method that was held up", &gate, 1)?;
+    say(
+        rt,
+        &gate,
+        &[
+            ("another object, while a method is held up", 2),
+            ("the method that was held up", 1),
+        ],
+    )?;
     let stop = play(
         rt,
         alloc,
         &[Part::OwnsAndLeaves, Part::CallsHeld, Part::LetsGoOn],
     );
-    print(rt, "the method of a node whose application left", &stop, 1)?;
-    let nested = play(rt, alloc, &[Part::Owns, Part::CallsBack]);
-    print(rt, "an object that calls its caller's, twice", &nested, 1)?;
-    let alone = play_alone(rt, alloc);
-    print(
+    say(
         rt,
-        "a call over a link whose other end is let go",
-        &alone,
-        0,
-    )?;
-    print_lasting(rt, alloc)?;
-    print_reopening(rt, alloc)
-}
-
-// Plays the scene of two nodes that keep nothing, and prints what it came to.
-fn print_lasting<R: Threads + Wait + Sync + Print>(rt: &R, alloc: Global) -> io::Result<()> {
-    let Some(lasted) = play_lasting(rt, alloc) else {
-        return println!(rt; "nodes that keep nothing: the scene failed");
-    };
-    let answered = lasted.answered;
-    let last = lasted.last;
-    println!(rt; "calls between nodes that keep nothing: {answered}, the last answered {last}")?;
-    let is_beyond = lasted.is_beyond;
-    println!(rt; "each made more than three entries a call: {is_beyond}")?;
-    let is_even = lasted.is_even;
-    println!(rt; "each acted on all that the other handed to it: {is_even}")?;
-    let is_open = lasted.is_open;
-    let live = lasted.live;
-    println!(rt; "the session is open at both: {is_open}; live objects: {live}")
-}
-
-// Plays the scene of two nodes that close their session and open it anew, and prints what it came to.
-fn print_reopening<R: Threads + Wait + Sync + Print>(rt: &R, alloc: Global) -> io::Result<()> {
-    let Some((owner, caller)) = play_reopening(rt, alloc) else {
-        return println!(rt; "nodes that open their session anew: the scene failed");
-    };
-    print_reopened(rt, "the owner", &owner)?;
-    print_reopened(rt, "the caller", &caller)?;
-    print_said(rt, "a call before the close", caller.before)?;
-    print_said(rt, "a call in the new session", caller.after)
-}
-
-// Prints what closing and opening the session came to at one node.
-fn print_reopened<R: Print>(rt: &R, name: &str, seen: &Reopened) -> io::Result<()> {
-    let is_right = seen.was_open && seen.is_closed;
-    match seen.number {
-        Some(number) => println!(rt; "{name} closed its session: {is_right}, and opened {number}"),
-        None => println!(rt; "{name} closed its session: {is_right}, and opened none"),
-    }
-}
-
-// Prints what the calls of one application came to.
-fn print<R: Print>(rt: &R, name: &str, all: &Option<Vec<Said>>, place: usize) -> io::Result<()> {
-    let Some(all) = all else {
-        return println!(rt; "{name}: the scene failed");
-    };
-    print_said(rt, name, all.get(place).copied().unwrap_or(Said::Other))
-}
-
-// Prints what a call came to.
-fn print_said<R: Print>(rt: &R, name: &str, said: Said) -> io::Result<()> {
-    match said {
-        Said::Number(number) => println!(rt; "{name}: {number}"),
-        Said::Ended => println!(rt; "{name}: ended"),
-        Said::Other => println!(rt; "{name}: something else"),
-    }
+        &stop,
+        &[
+            ("methods that run when the application leaves", 0),
+            ("the method of a node whose application left", 1),
+        ],
+    )
 }

@@ -1,9 +1,11 @@
-//! The applications.
+//! The applications of the scenes of two or three nodes that a gate holds up, or whose links are let
+//! go.
 
+use crate::calling::{Refusals, Said, found, give_back, offer, said_by};
 use crate::shared::Shared;
 use crate::thing::Thing;
 use nob_ids::SpaceId;
-use nob_node::{App, Hold, Node, Returned};
+use nob_node::{App, Hold, Node};
 use nob_pickle::Value;
 use std::sync::Wait;
 
@@ -22,19 +24,10 @@ pub(crate) enum Part {
     LetsGoOn,
     /// Has an object of the other space call one of its own, twice.
     CallsBack,
-    /// Calls a space that isn't there.
+    /// Does nothing: nobody carries what is sent to it.
+    Idles,
+    /// Calls a space to which nobody carries what is sent.
     CallsNobody,
-}
-
-/// What a call came to.
-#[derive(Clone, Copy, Debug, PartialEq, Eq)]
-pub(crate) enum Said {
-    /// It answered a number.
-    Number(i64),
-    /// It ended without an answer.
-    Ended,
-    /// It came to something else.
-    Other,
 }
 
 /// How often applications meet.
@@ -50,6 +43,7 @@ pub(crate) struct Player<'m> {
     came: u64,
     part: Part,
     pub(crate) said: Said,
+    pub(crate) refusals: Refusals,
 }
 
 impl<'m> Player<'m> {
@@ -60,6 +54,7 @@ impl<'m> Player<'m> {
             came: 0,
             part,
             said: Said::Other,
+            refusals: Refusals::new(),
         }
     }
 
@@ -78,74 +73,99 @@ impl<'m> Player<'m> {
         self.shared.note_left();
     }
 
+    // The object that a name of the first space stands for.
+    fn found<R: Wait>(&mut self, rt: &R, node: &mut Node<Thing>, name: &[u8]) -> Option<Hold> {
+        let first = SpaceId::new(1)?;
+        found(rt, node, &mut self.refusals, first, name).ok()
+    }
+
+    // What a call of method 0 of an object comes to.
+    fn said_by<R: Wait>(
+        &mut self,
+        rt: &R,
+        node: &mut Node<Thing>,
+        hold: &Option<Hold>,
+        value: Value,
+    ) -> Said {
+        said_by(rt, node, &mut self.refusals, hold, 0, value)
+    }
+
+    // Gives a hold back, if there is one.
+    fn give_back<R: Wait>(&mut self, rt: &R, node: &mut Node<Thing>, hold: Option<Hold>) {
+        give_back(rt, node, &mut self.refusals, hold);
+    }
+
     // Has objects for the others.
     fn own<R: Wait>(&mut self, rt: &R, node: &mut Node<Thing>) {
-        let one = offer(rt, node, b"one", Thing::Counter(0));
-        let other = offer(rt, node, b"other", Thing::Counter(0));
-        let caller = offer(rt, node, b"caller", Thing::Caller);
+        let refusals = &mut self.refusals;
+        let one = offer(rt, node, refusals, b"one", Thing::Counter(0));
+        let other = offer(rt, node, refusals, b"other", Thing::Counter(0));
+        let caller = offer(rt, node, refusals, b"caller", Thing::Caller);
         self.meet(rt);
         self.meet(rt);
         if self.part == Part::OwnsAndLeaves {
             self.shared.wait_held(rt);
+            self.said = running_at(rt, node);
             self.shared.note_left();
         } else {
             self.meet(rt);
         }
-        give_back(rt, node, one);
-        give_back(rt, node, other);
-        give_back(rt, node, caller);
+        self.give_back(rt, node, one);
+        self.give_back(rt, node, other);
+        self.give_back(rt, node, caller);
     }
 
     // Calls an object whose method is held up.
     fn call_held<R: Wait>(&mut self, rt: &R, node: &mut Node<Thing>) {
         self.meet(rt);
-        let hold = found(rt, node, b"one");
+        let hold = self.found(rt, node, b"one");
         self.meet(rt);
         self.shared.hold_next();
-        self.said = said_by(rt, node, &hold, Value::Unit);
+        self.said = self.said_by(rt, node, &hold, Value::Unit);
         self.shared.end_holding();
-        give_back(rt, node, hold);
+        self.give_back(rt, node, hold);
     }
 
     // Calls another object meanwhile, or waits for the owner to leave; then the method goes on.
     fn let_go_on<R: Wait>(&mut self, rt: &R, node: &mut Node<Thing>) {
         self.meet(rt);
-        let hold = found(rt, node, b"other");
+        let hold = self.found(rt, node, b"other");
         self.meet(rt);
         self.shared.wait_held(rt);
         if self.part == Part::CallsOther {
-            self.said = said_by(rt, node, &hold, Value::Unit);
+            self.said = self.said_by(rt, node, &hold, Value::Unit);
         } else {
             self.shared.wait_left(rt);
         }
         self.shared.open();
-        give_back(rt, node, hold);
+        self.give_back(rt, node, hold);
     }
 
     // Has an object of the other space call one of its own, twice: the second time by another hold
     // on it.
     fn call_back<R: Wait>(&mut self, rt: &R, node: &mut Node<Thing>) {
         self.meet(rt);
-        let hold = found(rt, node, b"caller");
+        let hold = self.found(rt, node, b"caller");
         self.meet(rt);
-        if let Ok(own) = node.export(rt, Thing::Counter(0)) {
-            let _ = said_by(rt, node, &hold, Value::Ref(own.rep()));
-            if let Ok(twin) = node.dup(rt, &own) {
-                self.said = said_by(rt, node, &hold, Value::Ref(twin.rep()));
-                give_back(rt, node, Some(twin));
+        if let Some(own) = self.refusals.answered(node.export(rt, Thing::Counter(0))) {
+            let _ = self.said_by(rt, node, &hold, Value::Ref(own.rep()));
+            if let Some(twin) = self.refusals.answered(node.dup(rt, &own)) {
+                self.said = self.said_by(rt, node, &hold, Value::Ref(twin.rep()));
+                self.give_back(rt, node, Some(twin));
             }
-            give_back(rt, node, Some(own));
+            self.give_back(rt, node, Some(own));
         }
-        give_back(rt, node, hold);
+        self.give_back(rt, node, hold);
     }
 
-    // Calls a space that isn't there.
+    // Calls a space to which nobody carries what is sent.
     fn call_nobody<R: Wait>(&mut self, rt: &R, node: &mut Node<Thing>) {
-        if let Some(first) = SpaceId::new(1)
-            && let Ok(returned) = node.lookup(rt, first, b"one")
-        {
-            self.said = said_of(&returned);
-            returned.forget();
+        let Some(first) = SpaceId::new(1) else {
+            return;
+        };
+        match found(rt, node, &mut self.refusals, first, b"one") {
+            Ok(hold) => self.give_back(rt, node, Some(hold)),
+            Err(said) => self.said = said,
         }
     }
 }
@@ -159,6 +179,7 @@ impl<'m> App<Thing> for Player<'m> {
             Part::CallsOther => self.let_go_on(rt, node),
             Part::LetsGoOn => self.let_go_on(rt, node),
             Part::CallsBack => self.call_back(rt, node),
+            Part::Idles => return,
             Part::CallsNobody => return self.call_nobody(rt, node),
         }
         self.shared.come(rt, 1);
@@ -170,70 +191,10 @@ impl<'m> App<Thing> for Player<'m> {
     }
 }
 
-// Exports an object, and has a name stand for it.
-pub(crate) fn offer<R: Wait>(
-    rt: &R,
-    node: &mut Node<Thing>,
-    name: &[u8],
-    thing: Thing,
-) -> Option<Hold> {
-    let Ok(hold) = node.export(rt, thing) else {
-        return None;
-    };
-    let _ = node.bind(rt, name, &hold);
-    Some(hold)
-}
-
-// The object that a name of the first space stands for.
-pub(crate) fn found<R: Wait>(rt: &R, node: &mut Node<Thing>, name: &[u8]) -> Option<Hold> {
-    let first = SpaceId::new(1)?;
-    let Ok(returned) = node.lookup(rt, first, name) else {
-        return None;
-    };
-    match returned.into_hold() {
-        Ok(hold) => Some(hold),
-        Err(returned) => {
-            returned.forget();
-            None
-        }
-    }
-}
-
-// Calls method 0 of an object: what that came to.
-pub(crate) fn said_by<R: Wait>(
-    rt: &R,
-    node: &mut Node<Thing>,
-    hold: &Option<Hold>,
-    value: Value,
-) -> Said {
-    let Some(hold) = hold else {
-        return Said::Other;
-    };
-    let Ok(returned) = node.call(rt, hold, 0, value) else {
-        return Said::Other;
-    };
-    let said = said_of(&returned);
-    returned.forget();
-    said
-}
-
-// What was returned.
-fn said_of(returned: &Returned) -> Said {
-    match returned {
-        Returned::Replied { status, value, .. } => match value {
-            Value::Int(number) if *status == 0 => Said::Number(*number),
-            _ => Said::Other,
-        },
-        Returned::Ended => Said::Ended,
-    }
-}
-
-// Gives a hold back.
-pub(crate) fn give_back<R: Wait>(rt: &R, node: &mut Node<Thing>, hold: Option<Hold>) {
-    let Some(hold) = hold else {
-        return;
-    };
-    if let Err((_error, hold)) = node.release(rt, hold) {
-        hold.forget();
+// How many methods run at a node.
+fn running_at<R: Wait>(rt: &R, node: &Node<Thing>) -> Said {
+    match i64::try_from(node.backlog(rt).running) {
+        Ok(running) => Said::Number(running),
+        Err(_) => Said::Other,
     }
 }

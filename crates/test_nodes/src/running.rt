@@ -1,12 +1,15 @@
 //! The nodes of a scene, a thread each.
 
-use crate::player::{Part, Player, Said};
+use crate::calling::{Refusals, Said};
+use crate::carrier::{Carrier, Way};
+use crate::player::{Part, Player};
 use crate::shared::Shared;
 use crate::thing::Thing;
+use crate::verdict::{Outcome, outcome_of};
 use nob_fault::Shim;
 use nob_ids::{Limits, SpaceId};
 use nob_link::{PutEnd, TakeEnd, link};
-use nob_node::{Config, Ends, run};
+use nob_node::{Config, Ends, Record, Report, run};
 use std::alloc::Global;
 use std::sync::Wait;
 use std::thread::{self, Threads};
@@ -14,120 +17,159 @@ use std::thread::{self, Threads};
 /// So many parcels a link holds.
 const LINK: usize = 64;
 
-/// A node to run, and then what its application's call came to.
+/// What is left of a node that has ended, and what its application's call came to.
 #[derive(Drop)]
-struct Place {
+struct Left {
+    said: Said,
+    refusals: Refusals,
+    record: Record,
+}
+
+/// A node to run, and what its application does.
+#[derive(Drop)]
+struct Start {
     alloc: Global,
     config: Config,
-    ends: Option<Vec<Ends>>,
+    ends: Vec<Ends>,
     players: u64,
     part: Part,
-    said: Option<Said>,
+}
+
+/// A node to run, and then what is left of it.
+#[derive(Drop)]
+struct Place {
+    start: Option<Start>,
+    left: Option<Left>,
 }
 
 impl Place {
     // Runs the node until its application has ended.
     fn play<R: Threads + Wait + Sync>(&mut self, rt: &R, shared: &Shared) {
-        let Some(ends) = self.ends.take() else {
-            return;
-        };
-        let mut player = Player::new(shared, self.players, self.part);
-        let done = run::<Thing, R, Shared, Player>(
-            rt,
-            self.alloc,
-            self.config,
-            ends,
-            shared,
-            &mut player,
-        );
-        player.leave(rt);
-        if done.is_ok() {
-            self.said = Some(player.said);
+        if let Some(start) = self.start.take() {
+            self.left = left_of(rt, shared, start);
         }
     }
 
     // The ends to one peer more. Only memory fails it.
     fn add(&mut self, ends: Ends) -> Option<()> {
-        match &mut self.ends {
-            Some(all) => all.push(ends).ok(),
+        match &mut self.start {
+            Some(start) => start.ends.push(ends).ok(),
             None => None,
         }
     }
 }
 
-/// Who has the ends of a space that isn't there.
-#[derive(Drop)]
-struct Stranger {
-    ends: Option<(PutEnd, TakeEnd)>,
-}
-
-impl Stranger {
-    // Takes one parcel, and lets the ends go.
-    fn play<R: Wait>(&mut self, rt: &R) {
-        if let Some((_put, mut take)) = self.ends.take() {
-            let _ = take.take_as(rt);
+// Runs a node until its application has ended: what is left of it, where it didn't fail.
+fn left_of<R: Threads + Wait + Sync>(rt: &R, shared: &Shared, start: Start) -> Option<Left> {
+    let Start {
+        alloc,
+        config,
+        ends,
+        players,
+        part,
+    } = start;
+    let mut player = Player::new(shared, players, part);
+    let done = run::<Thing, R, Shared, Player>(rt, alloc, config, ends, shared, &mut player);
+    player.leave(rt);
+    match done {
+        Ok(report) => {
+            let Report { record, objects: _ } = report;
+            Some(Left {
+                said: player.said,
+                refusals: player.refusals,
+                record,
+            })
         }
+        Err(_) => None,
     }
 }
 
-/// Plays a scene of these applications, the first of space 1: what the calls of each came to.
-/// `None` where memory is wanted, or a thread can't be made.
+/// What a scene came to.
+#[derive(Drop)]
+pub(crate) struct Played {
+    /// What the calls of each application came to.
+    pub(crate) said: Vec<Said>,
+    /// What is said of the scene.
+    pub(crate) outcome: Outcome,
+}
+
+/// Plays a scene of these applications, the first of space 1, with a link each way between each two
+/// nodes. `None` where memory is wanted, or a thread can't be made.
 pub(crate) fn play<R: Threads + Wait + Sync>(
     rt: &R,
     alloc: Global,
     parts: &[Part],
-) -> Option<Vec<Said>> {
-    let mut places = Vec::new(alloc);
-    for (place, part) in parts.iter().enumerate() {
-        places
-            .push(place_of(alloc, place, *part, parts.len())?)
-            .ok()?;
-    }
+) -> Option<Played> {
+    let mut places = places_of(alloc, parts)?;
     for first in 0..places.len() {
         for second in 0..first {
             join(alloc, &mut places, first, second)?;
         }
     }
-    play_all(rt, alloc, &mut places, Stranger { ends: None })
+    play_all(rt, alloc, places, Carrier::Nobody)
 }
 
-/// Plays the scene of an application that calls a space whose links' ends are let go.
-pub(crate) fn play_alone<R: Threads + Wait + Sync>(rt: &R, alloc: Global) -> Option<Vec<Said>> {
-    let mut places = Vec::new(alloc);
-    places.push(place_of(alloc, 1, Part::CallsNobody, 1)?).ok()?;
-    let first = space_at(0)?;
+/// Plays the scene of an application that calls a space to which nobody carries what is sent: the
+/// other ends of its links are let go.
+pub(crate) fn play_alone<R: Threads + Wait + Sync>(rt: &R, alloc: Global) -> Option<Played> {
+    let mut places = places_of(alloc, &[Part::Idles, Part::CallsNobody])?;
+    let (ends, put, take) = ends_to(alloc, space_at(0)?)?;
+    places.get_mut(1)?.add(ends)?;
+    play_all(rt, alloc, places, Carrier::TakesOne(put, take))
+}
+
+/// Plays the scene of two applications between whose nodes parcels are carried until a method of
+/// the first is held up, which the second has called: then the ends of the links are let go.
+pub(crate) fn play_cut<R: Threads + Wait + Sync>(rt: &R, alloc: Global) -> Option<Played> {
+    let mut places = places_of(alloc, &[Part::Owns, Part::CallsHeld])?;
+    let (ours, put, take) = ends_to(alloc, space_at(1)?)?;
+    let (theirs, put_there, take_there) = ends_to(alloc, space_at(0)?)?;
+    places.get_mut(0)?.add(ours)?;
+    places.get_mut(1)?.add(theirs)?;
+    let there = Way::new(take, put_there);
+    let back = Way::new(take_there, put);
+    play_all(rt, alloc, places, Carrier::UntilHeld(there, back))
+}
+
+// A node's ends of the links to a peer and from it, and the other ends of these links, that which
+// puts and that which takes. Only memory fails it.
+fn ends_to(alloc: Global, peer: SpaceId) -> Option<(Ends, PutEnd, TakeEnd)> {
     let (put_there, take_there) = link(alloc, LINK).ok()?;
     let (put_back, take_back) = link(alloc, LINK).ok()?;
-    let ends = Ends::new(first, put_there, take_back, Shim::new(Vec::new(alloc)));
-    places.get_mut(0)?.add(ends)?;
-    let stranger = Stranger {
-        ends: Some((put_back, take_there)),
-    };
-    play_all(rt, alloc, &mut places, stranger)
+    let ends = Ends::new(peer, put_there, take_back, Shim::new(Vec::new(alloc)));
+    Some((ends, put_back, take_there))
 }
 
-// Runs all nodes, a thread each: what the calls of each came to.
+// Runs all nodes, a thread each: what the scene came to.
 fn play_all<R: Threads + Wait + Sync>(
     rt: &R,
     alloc: Global,
-    places: &mut Vec<Place>,
-    mut stranger: Stranger,
-) -> Option<Vec<Said>> {
+    mut places: Vec<Place>,
+    carrier: Carrier,
+) -> Option<Played> {
     let shared = Shared::new();
-    in_threads(rt, &shared, places.as_mut_slice(), &mut stranger);
+    in_threads(rt, &shared, places.as_mut_slice(), carrier);
     let mut all = Vec::new(alloc);
-    for place in places.iter() {
-        all.push(place.said?).ok()?;
+    let mut refusals = Refusals::new();
+    let mut records = Vec::new(alloc);
+    for place in places {
+        let left = place.left?;
+        all.push(left.said).ok()?;
+        refusals = refusals.with(left.refusals);
+        records.push(left.record).ok()?;
     }
-    Some(all)
+    Some(Played {
+        said: all,
+        outcome: outcome_of(alloc, refusals, records),
+    })
 }
 
-// Runs a thread for each place, and one for who isn't there.
+// Runs a thread for each place, and one for who has ends of links beside them.
 fn in_threads<R: Threads + Wait + Sync>(
     rt: &R,
     shared: &Shared,
     places: &mut [Place],
-    stranger: &mut Stranger,
+    carrier: Carrier,
 ) {
     thread::scope(thread::scope_env(), rt, |scope| {
         for place in places {
@@ -137,20 +179,34 @@ fn in_threads<R: Threads + Wait + Sync>(
                 shared.note_left();
             }
         }
-        let _ = scope.spawn(move || stranger.play(rt));
+        let _ = scope.spawn(move || carrier.play(rt, shared));
     });
 }
 
-// A place with no links yet. Only memory fails it.
+// The places of these applications, with no links yet. Only memory fails it.
+fn places_of(alloc: Global, parts: &[Part]) -> Option<Vec<Place>> {
+    let mut places = Vec::new(alloc);
+    for (place, part) in parts.iter().enumerate() {
+        places
+            .push(place_of(alloc, place, *part, parts.len())?)
+            .ok()?;
+    }
+    Some(places)
+}
+
+// A place with no links yet, one of so many. Only memory fails it.
 fn place_of(alloc: Global, place: usize, part: Part, players: usize) -> Option<Place> {
-    let space = space_at(place)?;
-    Some(Place {
+    let spaces = u16::try_from(players).ok()?;
+    let start = Start {
         alloc,
-        config: Config::new(space, 3, Limits::default(), 2, 8, 0)?,
-        ends: Some(Vec::new(alloc)),
-        players: players as u64,
+        config: Config::new(space_at(place)?, spaces, Limits::default(), 2, 8, 0)?,
+        ends: Vec::new(alloc),
+        players: u64::from(spaces),
         part,
-        said: None,
+    };
+    Some(Place {
+        start: Some(start),
+        left: None,
     })
 }
 

@@ -61,6 +61,11 @@ impl Shared {
         wait_for(rt, &self.is_held, &self.is_over);
     }
 
+    // Whether a job is held up, or none will be any more.
+    pub(crate) fn is_held(&self) -> bool {
+        self.is_held.load(Ordering::SeqCst) || self.is_over.load(Ordering::SeqCst)
+    }
+
     // The job that is held up goes on.
     pub(crate) fn open(&self) {
         self.is_held.store(false, Ordering::SeqCst);

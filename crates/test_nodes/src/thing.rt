@@ -45,3 +45,20 @@ fn call_of(args: &Value) -> Outcome {
         _ => Outcome::NoMethod,
     }
 }
+
+/// Answers twice the number of its argument, whatever the method.
+#[derive(Clone, Copy, Debug, Drop)]
+pub(crate) struct Doubler;
+
+impl Object for Doubler {
+    fn invoke(&mut self, _method: u16, args: &Value) -> Outcome {
+        match args {
+            Value::Int(number) => Outcome::Answer(Value::Int(number.saturating_add(*number))),
+            _ => Outcome::NoMethod,
+        }
+    }
+
+    fn resume(&mut self, _done: &Done) -> Outcome {
+        Outcome::NoMethod
+    }
+}
