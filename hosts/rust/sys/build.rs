@@ -30,10 +30,14 @@ fn library() -> Result<(PathBuf, PathBuf), String> {
         Some(named) => PathBuf::from(named),
         None => match carried(own) {
             Some(both) => return Ok(both),
-            None => own.join("../../../crates/nob_host/out/libnob_host.a"),
+            None => return made(own),
         },
     };
     println!("cargo::rerun-if-changed={}", archive.display());
+    with_allocator(archive)
+}
+
+fn with_allocator(archive: PathBuf) -> Result<(PathBuf, PathBuf), String> {
     if !archive.is_file() {
         return Err(format!("there is no {}", archive.display()));
     }
@@ -42,6 +46,17 @@ fn library() -> Result<(PathBuf, PathBuf), String> {
         true => Ok((archive, allocator)),
         false => Err(format!("there is no {}", allocator.display())),
     }
+}
+
+// The one that the repository's tools make. As long as it isn't there its crate is watched in its place, if there is one: where a
+// file is watched that isn't there, cargo runs this each time, and builds all that hangs on it again.
+fn made(own: &Path) -> Result<(PathBuf, PathBuf), String> {
+    let source = own.join("../../../crates/nob_host");
+    let archive = source.join("out/libnob_host.a");
+    if let Some(watched) = [&archive, &source].into_iter().find(|path| path.exists()) {
+        println!("cargo::rerun-if-changed={}", watched.display());
+    }
+    with_allocator(archive)
 }
 
 // The same, where the package carries them for this target: tools/host-package put them there.

@@ -1,131 +1,13 @@
 //! Peers that misbehave, each at an engine that serves an honest one beside it: the engine stands, the
 //! honest peer is answered, and the other one has what it asked for.
 
-use masttomato::engine::{
-    Answered, Engine, LONGEST_BODY, Life, Misbehaved, Session, Settings, Ticket, Turn,
-};
-use masttomato::space::{Outcome, Reason, Refusal, SpaceError, SpaceId, Status, Value};
+#[path = "common/scene.rs"]
+mod scene;
+
+use masttomato::engine::{Answered, LONGEST_BODY, Misbehaved, Session, Ticket};
+use masttomato::space::{Outcome, Reason, Refusal, SpaceError, Status, Value};
+use scene::{HERE, HONEST, HOSTILE, Scene, call, frame, id, record, sent};
 use std::time::Duration;
-
-const HERE: u16 = 1;
-const HONEST: u16 = 2;
-const HOSTILE: u16 = 3;
-
-fn id(number: u16) -> SpaceId {
-    SpaceId::new(number).expect("a space")
-}
-
-/// An engine with an honest peer and one whose bytes the test makes up.
-struct Scene {
-    owner: Engine,
-    honest: Engine,
-    now: Duration,
-    served: usize,
-}
-
-impl Scene {
-    fn new() -> Scene {
-        let now = Duration::ZERO;
-        let engine = |number| Engine::new(Settings::new(id(number), id(3)), now).expect("memory");
-        let (mut owner, mut honest) = (engine(HERE), engine(HONEST));
-        owner.connected(id(HONEST), Life::only(HONEST.into()), now).expect("its first life");
-        owner.connected(id(HOSTILE), Life::only(HOSTILE.into()), now).expect("its first life");
-        honest.connected(id(HERE), Life::only(HERE.into()), now).expect("its first life");
-        Scene { owner, honest, now, served: 0 }
-    }
-
-    fn send(&mut self, bytes: &[u8]) -> Result<(), Misbehaved> {
-        self.owner.bytes(id(HOSTILE), bytes, self.now)
-    }
-
-    // A turn of the owner, which answers unit to all that it is asked.
-    fn turn(&mut self) -> Turn {
-        let mut turn = self.owner.turn(self.now);
-        for job in std::mem::take(&mut turn.jobs) {
-            self.served += 1;
-            self.owner.finish(job.job, Outcome::Answer(Value::Unit));
-        }
-        turn
-    }
-
-    // Turns until no job is left.
-    fn serve_all(&mut self) {
-        let mut before = usize::MAX;
-        while before != self.served {
-            before = self.served;
-            let _ = self.turn();
-        }
-    }
-
-    // What the owner has for the hostile peer is taken, and thrown away.
-    fn read(&mut self) -> usize {
-        let out = self.owner.output(id(HOSTILE));
-        let count = out.left().len();
-        out.advance(count);
-        count
-    }
-
-    // The honest peer calls, and is answered.
-    fn assert_serves(&mut self) {
-        let ticket = Ticket(self.served as u64);
-        self.honest.call(ticket, id(HERE).agent(), 0, Value::Int(5));
-        for _ in 0..20 {
-            self.now += Duration::from_millis(1);
-            let answers = self.honest.turn(self.now).answers;
-            if let [(answered, what)] = &answers[..] {
-                let wanted = Answered::Replied { status: Status::Answered, value: Value::Unit };
-                assert_eq!((*answered, what), (ticket, &wanted));
-                return;
-            }
-            let out = self.honest.output(id(HERE));
-            self.owner.bytes(id(HONEST), out.left(), self.now).expect("honest bytes");
-            out.advance(usize::MAX);
-            let _ = self.turn();
-            let _ = self.turn();
-            let out = self.owner.output(id(HONEST));
-            self.honest.bytes(id(HERE), out.left(), self.now).expect("honest bytes");
-            out.advance(usize::MAX);
-        }
-        panic!("the honest peer isn't answered");
-    }
-
-    fn session(&self, number: u16) -> Session {
-        self.owner.session(id(number))
-    }
-}
-
-fn frame(from: u16, to: u16, seq: u64, payload: &[u8]) -> Vec<u8> {
-    let mut bytes = vec![0x4e, 2, 1, 0];
-    bytes.extend(from.to_be_bytes());
-    bytes.extend(to.to_be_bytes());
-    bytes.extend(seq.to_be_bytes());
-    bytes.extend(1_u64.to_be_bytes());
-    bytes.extend((payload.len() as u32).to_be_bytes());
-    bytes.extend(1_u32.to_be_bytes());
-    bytes.extend(payload);
-    bytes
-}
-
-fn record(kind: u8, stamp: u64, body: &[u8]) -> Vec<u8> {
-    let mut bytes = (body.len() as u32).to_be_bytes().to_vec();
-    bytes.extend([kind, 0, 0, 0]);
-    bytes.extend(stamp.to_be_bytes());
-    bytes.extend(body);
-    bytes
-}
-
-// A call of the agent with a pickle.
-fn call(number: u64, pickle: &[u8]) -> Vec<u8> {
-    let mut item = vec![1];
-    item.extend(number.to_be_bytes());
-    item.extend([0; 10]);
-    item.extend(pickle);
-    item
-}
-
-fn sent(seq: u64, item: &[u8]) -> Vec<u8> {
-    record(0, seq, &frame(HOSTILE, HERE, seq, item))
-}
 
 // It reads all it is given, and never acknowledges: a reply that finds no room waits, and nothing
 // panics. As many calls as an honest peer may have open are served. The object that waits to answer it
@@ -274,6 +156,83 @@ fn reply(number: u64) -> Vec<u8> {
     [&[2][..], &number.to_be_bytes(), &[0, 1], &5_i64.to_be_bytes()].concat()
 }
 
+// A note, or a reply without its value.
+fn note(kind: u8, number: u64) -> Vec<u8> {
+    [&[kind][..], &number.to_be_bytes()].concat()
+}
+
+// A value that is so many lists, one within the other.
+fn nested(levels: usize) -> Vec<u8> {
+    [[3, 0, 1].repeat(levels), vec![0]].concat()
+}
+
+// References to an object that isn't the owner's, so many in a list.
+fn references(count: u8) -> Vec<u8> {
+    let one = [4, 0, 3, 0, 0, 0, 0, 0, 0, 0, 1];
+    [&[3, 0, count][..], &one.repeat(count.into())].concat()
+}
+
+// Those that spell nothing, or have a value beyond its limits.
+fn unspelled() -> Vec<(&'static str, Vec<u8>)> {
+    let long = |length: u32| [&[2][..], &length.to_be_bytes(), &vec![7; length as usize]].concat();
+    vec![
+        ("an item of no kind", note(9, 1)),
+        ("half an item", call(1, &[0])[..12].to_vec()),
+        ("a call without a number", call(0, &[0])),
+        ("a call without a value", call(1, &[])),
+        ("bytes behind the value", call(1, &[0, 0])),
+        ("a value of no kind", call(1, &[9])),
+        ("17 levels", call(1, &nested(17))),
+        ("8,193 bytes", call(1, &long(8_193))),
+        ("bytes that aren't there", call(1, &[2, 0, 0, 0x20, 0])),
+        ("257 elements", call(1, &[&[3, 1, 1][..], &[0; 257]].concat())),
+        ("33 references", call(1, &references(33))),
+        ("a reply of an unknown status", [&note(2, 1)[..], &[4, 0]].concat()),
+    ]
+}
+
+fn assert_closes(what: &str, item: &[u8], reason: Reason) {
+    let mut scene = Scene::new();
+    scene.send(&sent(1, item)).expect("a frame");
+    scene.serve_all();
+    assert_eq!((what, scene.session(HOSTILE)), (what, Session::Closed(reason)));
+    assert_eq!((scene.served, scene.session(HONEST)), (0, Session::Open), "{what}");
+    scene.assert_serves();
+}
+
+// Items that no space sends: they spell nothing, speak of objects that there aren't, or answer what nobody asked. The session
+// closes at the first of them, with the reason, and nothing of it is carried out; all other sessions stay.
+#[test]
+fn one_that_sends_items_that_no_space_sends() {
+    for (what, item) in unspelled() {
+        assert_closes(what, &item, Reason::BadItem);
+    }
+    let reference = call(1, &[4, 0, 1, 0, 0, 0, 0, 0, 0, 0, 9]);
+    assert_closes("a reference to nothing", &reference, Reason::BadReference);
+    assert_closes("a call of nothing", &guess(1, 9), Reason::BadReference);
+    assert_closes("a dirty of nothing", &note(4, 9), Reason::BadReference);
+    assert_closes("a clean of nothing", &note(7, 9), Reason::BadReference);
+    assert_closes("a reply to nothing", &reply(1), Reason::OutOfPlace);
+    assert_closes("an answer to no dirty", &note(5, 1), Reason::OutOfPlace);
+    assert_closes("a refusal of no dirty", &note(6, 1), Reason::OutOfPlace);
+    assert_closes("a settled item that nobody sent", &note(3, 1), Reason::OutOfPlace);
+}
+
+// It acknowledges what it was never given, or with a number that no item has.
+#[test]
+fn one_that_acknowledges_what_it_was_never_given() {
+    for ack in [2_u64, 1 << 40] {
+        let mut scene = Scene::new();
+        let mut bytes = frame(HOSTILE, HERE, 1, &call(1, &[0]));
+        bytes[16..24].copy_from_slice(&ack.to_be_bytes());
+        scene.send(&record(0, 1, &bytes)).expect("a frame");
+        assert_eq!(scene.session(HOSTILE), Session::Closed(Reason::BadItem), "{ack}");
+        scene.serve_all();
+        assert_eq!(scene.served, 0);
+        scene.assert_serves();
+    }
+}
+
 // Its items come backwards, and after each another one of its number: the first of each counts, and a reply
 // among them is given to who waits for it.
 #[test]
@@ -405,6 +364,24 @@ fn one_that_guesses_an_index_and_goes() {
     let claimed = scene.owner.counts();
     assert_eq!(claimed.jobs_claimed, claimed.calls_unlisted);
     scene.assert_serves();
+}
+
+// It says that it has no use for an object that another space has: that one is listed for it as before.
+#[test]
+fn one_that_gives_back_what_another_has() {
+    let mut scene = Scene::new();
+    let object = scene.owner.export().expect("room");
+    let index = object.index;
+    let honest = |seq, kind| record(0, seq, &frame(HONEST, HERE, seq, &note(kind, index)));
+    scene.owner.bytes(id(HONEST), &honest(1, 4), scene.now).expect("a note");
+    scene.owner.release(object);
+    for number in 1..=3 {
+        scene.send(&sent(number, &note(7, index))).expect("a note");
+        assert_eq!(scene.turn().withdrawn, []);
+    }
+    assert_eq!((scene.session(HOSTILE), scene.owner.report(scene.now).live), (Session::Open, 1));
+    scene.owner.bytes(id(HONEST), &honest(2, 7), scene.now).expect("a note");
+    assert_eq!(scene.turn().withdrawn, [index]);
 }
 
 // More items in one record than may wait at once: those behind them are kept up to the reach, and there when

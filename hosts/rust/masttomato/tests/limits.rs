@@ -1,8 +1,8 @@
-//! Limits of a node: what is said at each, that others go on meanwhile, and how much memory a node takes under those
-//! that peers may use up. Those of which tests/hostile.rs speaks aren't here.
+//! Limits of a node: what is said at each, and that others go on meanwhile. Those of which tests/hostile.rs speaks aren't
+//! here, and how much memory a node takes at them is looked at in tests/memory.rs.
 
 use masttomato::engine::{
-    Answered, Engine, HELLO, Hello, LONGEST_BODY, Life, Session, Settings, Ticket, Why, World,
+    Answered, Engine, HELLO, Hello, Life, Session, Settings, Ticket, Why, World,
 };
 use masttomato::space::{Outcome, Refusal, SpaceError, SpaceId, Value};
 use masttomato::{Node, NodeError, Peers, Remote, interface};
@@ -154,15 +154,94 @@ fn so_many_strangers_are_waited_for_and_not_for_long() {
     assert_eq!(bell.ring().wait_for(Duration::from_secs(60)), Ok(7));
 }
 
-// Says hello as space 3, and hears why that is refused, if it is.
-fn greet(address: SocketAddr) -> (TcpStream, Option<Why>) {
+fn hello(number: u16) -> Hello {
     let (life, world) = (Life::only(33), World::default());
-    let hello = Hello { space: id(3), spaces: id(3), world, life, refused: None };
+    Hello { space: id(number), spaces: id(3), world, life, refused: None }
+}
+
+// Says these bytes in place of a hello, and hears why that is refused, if it is.
+fn say(address: SocketAddr, hello: &[u8; HELLO]) -> (TcpStream, Option<Why>) {
     let mut stream = TcpStream::connect(address).expect("a node");
-    stream.write_all(&hello.to_bytes()).expect("a socket");
+    stream.write_all(hello).expect("a socket");
     let mut answer = [0; HELLO];
     stream.read_exact(&mut answer).expect("an answer");
     (stream, Hello::from_bytes(&answer).expect("a hello").refused)
+}
+
+// Says hello as space 3.
+fn greet(address: SocketAddr) -> (TcpStream, Option<Why>) {
+    say(address, &hello(3).to_bytes())
+}
+
+// Hellos of strangers to a node of space 1, which space 2 is connected to, in a world of 3.
+fn hellos_that_do_not_fit() -> [([u8; HELLO], Why, &'static str); 6] {
+    let world = Hello { world: World::named("another"), ..hello(3) }.to_bytes();
+    let spaces = Hello { spaces: id(4), ..hello(3) }.to_bytes();
+    let mut version = hello(3).to_bytes();
+    version[5] = 2;
+    let used = "its number was used by an earlier life: a process that starts again takes the next number, or keeps bounds and comes back";
+    let releases =
+        "it says hello in another version: both must be of releases whose hellos have version 3";
+    [
+        ([7; HELLO], Why::NoHello, "it said no hello"),
+        (world, Why::OtherWorld, "it is of another world"),
+        (spaces, Why::OtherSpaces, "it counts another number of spaces"),
+        (hello(1).to_bytes(), Why::OtherNumber, "it has a number that isn't expected there"),
+        (hello(2).to_bytes(), Why::NumberUsed, used),
+        (version, Why::OtherVersion, releases),
+    ]
+}
+
+// Space 1 with a bell, where it listens, and space 2, which has it.
+fn owner_and_member() -> (Node, SocketAddr, Node, Remote<dyn Bell>) {
+    let owner = Node::builder(id(1), Peers::none()).listen("127.0.0.1:0").spaces(id(3));
+    let owner = owner.start().expect("a node");
+    owner.bind("bell", &owner.export::<dyn Bell>(Box::new(Brass)).expect("room")).expect("a name");
+    let address = owner.address().expect("it listens");
+    let two = Node::builder(id(2), Peers::none().with(id(1), address)).spaces(id(3));
+    let two = two.start().expect("a node");
+    let bell = two.lookup(id(1), "bell").wait().expect("a bell");
+    (owner, address, two, bell)
+}
+
+// A hello that doesn't fit is answered by why, the report has the sentence, and a member's connection stays.
+#[test]
+fn a_hello_that_does_not_fit_is_refused_with_a_sentence() {
+    let (owner, address, two, bell) = owner_and_member();
+    for (place, (said, why, sentence)) in hellos_that_do_not_fit().into_iter().enumerate() {
+        let (mut stream, refused) = say(address, &said);
+        assert_eq!(refused, Some(why));
+        eventually("it is hung up on", || is_hung_up(&mut stream));
+        eventually("it is counted", || owner.counts().turned_away == place as u64 + 1);
+        let last = owner.report().expect("it runs").turned_away.expect("the last one");
+        assert_eq!(last.to_string(), format!("{}: {sentence}", last.from));
+        assert_eq!(bell.ring().wait_for(Duration::from_secs(60)), Ok(7));
+    }
+    assert_eq!((two.counts().connects, owner.session(id(2))), (1, Session::Open));
+    assert!(matches!(owner.session(id(3)), Session::Down { .. }), "nobody was let in as it");
+}
+
+// As many strangers come as can in a second or so, while a member calls: each of its calls is answered, on the
+// connection that it had.
+#[test]
+fn strangers_who_come_without_a_pause_leave_members_alone() {
+    let (owner, address, two, bell) = owner_and_member();
+    std::thread::scope(|scope| {
+        let come = scope.spawn(move || {
+            for number in 0_usize..5_000 {
+                let mut stream = TcpStream::connect(address).expect("it listens");
+                let _said = stream.write_all(&vec![7; number % 65]);
+            }
+        });
+        let mut rung = 0;
+        while !come.is_finished() || rung == 0 {
+            assert_eq!(bell.ring().wait_for(Duration::from_secs(60)), Ok(7));
+            rung += 1;
+        }
+        come.join().expect("no panic");
+    });
+    eventually("all are turned away", || owner.counts().turned_away == 5_000);
+    assert_eq!((two.counts().connects, owner.session(id(2))), (1, Session::Open));
 }
 
 // A peer that sends what no honest one does is hung up on, and let in again when a second has passed, and not before; its
@@ -188,69 +267,4 @@ fn who_misbehaves_waits_for_a_second() {
     };
     assert!(since.elapsed() >= Duration::from_secs(1), "{:?}", since.elapsed());
     eventually("its session is open", || owner.session(id(3)) == Session::Open);
-}
-
-// How much memory this process has, where the system says so.
-fn memory() -> Option<usize> {
-    let statm = std::fs::read_to_string("/proc/self/statm").ok()?;
-    let pages: usize = statm.split(' ').nth(1)?.parse().ok()?;
-    Some(pages * 4_096)
-}
-
-// A frame of data of a session.
-fn frame(from: u16, session: u32, seq: u64, payload: &[u8]) -> Vec<u8> {
-    let mut bytes = vec![0x4e, 2, 1, 0];
-    bytes.extend(from.to_be_bytes());
-    bytes.extend(1_u16.to_be_bytes());
-    bytes.extend(seq.to_be_bytes());
-    bytes.extend(1_u64.to_be_bytes());
-    bytes.extend((payload.len() as u32).to_be_bytes());
-    bytes.extend(session.to_be_bytes());
-    bytes.extend(payload);
-    bytes
-}
-
-fn record(length: usize, body: &[u8]) -> Vec<u8> {
-    let mut bytes = (length as u32).to_be_bytes().to_vec();
-    bytes.extend([0; 4]);
-    bytes.extend(1_u64.to_be_bytes());
-    bytes.extend(body);
-    bytes
-}
-
-// What one peer may have an engine keep without being answered: items of sessions that aren't open here, the longest
-// ones, of more sessions than one and more numbers than fit; and a record of which the last byte never comes. All 31
-// peers do so, and an engine takes less than 64 MB for each of the two.
-#[test]
-fn what_peers_have_kept_is_bounded() {
-    let mut owner = engine(1, 32);
-    let now = Duration::ZERO;
-    for peer in 2..=32 {
-        owner.connected(id(peer), Life::only(peer.into()), now).expect("its only life");
-        owner.close(id(peer));
-    }
-    let Some(before) = memory() else {
-        return eprintln!("skipped: nobody says how much memory it has");
-    };
-    let payload = vec![7; 16_384];
-    for session in [2, 4, 3] {
-        for seq in 1..=80 {
-            for peer in 2..=32 {
-                let bytes = frame(peer, session, seq, &payload);
-                owner.bytes(id(peer), &record(bytes.len(), &bytes), now).expect("a frame");
-            }
-        }
-        let _turn = owner.turn(now);
-    }
-    let kept = memory().expect("as before").saturating_sub(before);
-    assert!(kept < 64 << 20, "{kept} bytes for what was passed over");
-    let before = memory().expect("as before");
-    let almost = record(LONGEST_BODY, &vec![7; LONGEST_BODY - 1]);
-    for peer in 2..=32 {
-        owner.bytes(id(peer), &almost, now).expect("a part of a record");
-    }
-    let kept = memory().expect("as before").saturating_sub(before);
-    assert!(kept < 64 << 20, "{kept} bytes for parts of records");
-    // It still does what it is asked.
-    assert!(owner.export().is_ok());
 }

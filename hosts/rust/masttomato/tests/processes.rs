@@ -1,11 +1,12 @@
 //! The examples of several processes, which say the same each time.
 
+#[path = "common/running.rs"]
+mod running;
+
+use running::{Running, example, port};
 use std::fs;
-use std::io::{BufRead, BufReader, Write};
-use std::net::TcpListener;
 use std::path::PathBuf;
-use std::process::{Child, ChildStdout, Command, Stdio};
-use std::sync::atomic::{AtomicU16, Ordering::SeqCst};
+use std::process::Stdio;
 
 const COUNTER: &str = "\
 space 2: looked the counter up
@@ -42,15 +43,6 @@ space 1: the counter has no name any more
 space 1: nobody has the counter any more, and it is dropped
 ";
 
-// An example that was built beside this test.
-fn example(name: &str) -> Command {
-    let this = std::env::current_exe().expect("this test's program");
-    let folder = this.ancestors().nth(2).expect("its folder").join("examples");
-    let program = folder.join(name);
-    assert!(program.is_file(), "cargo build --examples makes {}", program.display());
-    Command::new(program)
-}
-
 #[test]
 fn a_counter_over_three_processes() {
     assert_says("counter", COUNTER);
@@ -79,18 +71,6 @@ fn assert_says(name: &str, wanted: &str) {
     assert!(output.status.success());
 }
 
-// A port that is free, and that no listener on port 0 is ever given: below those that systems give.
-fn port() -> u16 {
-    static NEXT: AtomicU16 = AtomicU16::new(0);
-    loop {
-        let port =
-            11_000 + (std::process::id() as u16 % 1_000) * 20 + NEXT.fetch_add(1, SeqCst) % 20;
-        if TcpListener::bind(("127.0.0.1", port)).is_ok() {
-            return port;
-        }
-    }
-}
-
 /// A folder that goes with the test, and a list of peers: so many, and all others have no address.
 struct Place(PathBuf);
 
@@ -109,35 +89,6 @@ impl Place {
 impl Drop for Place {
     fn drop(&mut self) {
         let _removed = fs::remove_dir_all(&self.0);
-    }
-}
-
-/// A process that ends with the test.
-struct Running(Child, BufReader<ChildStdout>);
-
-impl Running {
-    fn start(command: &mut Command) -> Running {
-        let mut child =
-            command.stdin(Stdio::piped()).stdout(Stdio::piped()).spawn().expect("a program");
-        let said = BufReader::new(child.stdout.take().expect("a pipe"));
-        Running(child, said)
-    }
-
-    fn hears(&mut self, wanted: &str) {
-        let mut line = String::new();
-        self.1.read_line(&mut line).expect("a line");
-        assert_eq!(line.trim_end(), wanted);
-    }
-
-    fn says(&mut self, line: &str) {
-        let stdin = self.0.stdin.as_mut().expect("a pipe");
-        writeln!(stdin, "{line}").expect("it runs");
-    }
-}
-
-impl Drop for Running {
-    fn drop(&mut self) {
-        let _ended = (self.0.kill(), self.0.wait());
     }
 }
 

@@ -77,6 +77,15 @@ impl std::str::FromStr for Peers {
     }
 }
 
+/// What a file says; an error names it.
+pub(crate) fn read(path: &Path) -> io::Result<String> {
+    fs::read_to_string(path).map_err(|error| of_file(path, error))
+}
+
+fn of_file(path: &Path, error: io::Error) -> io::Error {
+    io::Error::new(error.kind(), format!("{}: {error}", path.display()))
+}
+
 fn line_of(line: &str) -> Option<Line> {
     let (spaces, address) = line.split_once(char::is_whitespace)?;
     let space = |text: &str| SpaceId::new(text.parse().ok()?);
@@ -113,9 +122,9 @@ impl Peers {
     /// # Errors
     /// Where it can't be read, or a line says none.
     pub fn read(path: impl AsRef<Path>) -> io::Result<Peers> {
-        fs::read_to_string(path)?
-            .parse()
-            .map_err(|bad| io::Error::new(io::ErrorKind::InvalidData, bad))
+        let path = path.as_ref();
+        let bad = |bad| of_file(path, io::Error::new(io::ErrorKind::InvalidData, bad));
+        read(path)?.parse().map_err(bad)
     }
 
     /// These, and a space at an address.

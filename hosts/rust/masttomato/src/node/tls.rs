@@ -1,6 +1,6 @@
 //! Seals by TLS 1.3, in which both ends show certificates. All that this crate knows of rustls is in this file.
 
-use super::peers::Line;
+use super::peers::{Line, read};
 use super::seal::{Seal, Sealer, is_for_later};
 use crate::engine::{Flaw, World};
 use crate::space::SpaceId;
@@ -12,7 +12,6 @@ use rustls::{
     ServerConfig, ServerConnection, ServerName,
 };
 use std::fmt;
-use std::fs;
 use std::io::{self, Cursor, ErrorKind, Read, Write};
 use std::path::Path;
 use std::sync::Arc;
@@ -148,8 +147,8 @@ impl Identity {
         key: impl AsRef<Path>,
         authority: impl AsRef<Path>,
     ) -> Result<Identity, BadIdentity> {
-        let [certificate, key] = [fs::read_to_string(certificate)?, fs::read_to_string(key)?];
-        Identity::from_pem(&certificate, &key, &fs::read_to_string(authority)?)
+        let [certificate, key] = [read(certificate.as_ref())?, read(key.as_ref())?];
+        Identity::from_pem(&certificate, &key, &read(authority.as_ref())?)
     }
 
     /// The same of texts.
@@ -338,7 +337,7 @@ impl ClientCertVerifier for Verifier {
         between: &[Certificate],
         now: SystemTime,
     ) -> Result<ClientCertVerified, Error> {
-        let chain = [&[first.clone()], between].concat();
+        let chain = [std::slice::from_ref(first), between].concat();
         self.judge(&chain, now, Side::Client).map_err(error_of)?;
         Ok(ClientCertVerified::assertion())
     }
@@ -354,7 +353,7 @@ impl ServerCertVerifier for Verifier {
         _: &[u8],
         now: SystemTime,
     ) -> Result<ServerCertVerified, Error> {
-        let chain = [&[first.clone()], between].concat();
+        let chain = [std::slice::from_ref(first), between].concat();
         self.judge(&chain, now, Side::Server).map_err(error_of)?;
         Ok(ServerCertVerified::assertion())
     }

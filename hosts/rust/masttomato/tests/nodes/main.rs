@@ -159,6 +159,29 @@ fn what_is_too_large_is_said() {
     assert_eq!(maker.answers(1).wait(), Ok(vec![7]));
 }
 
+// What is within the limits is sent, and answered by there being no such method.
+#[test]
+fn what_has_too_many_parts_or_levels_is_said() {
+    let (_one, _two, counter, _alive) = pair();
+    let list = |length| counter.invoke::<(Vec<u8>, Vec<i64>), ()>(99, (vec![], vec![0; length]));
+    assert_eq!(list(256).wait(), Err(CallError::NoMethod));
+    assert_eq!(list(257).wait(), Err(CallError::TooLarge));
+    let references = |count| {
+        let all: Vec<Remote<dyn Counter>> = vec![counter.clone(); count];
+        counter.invoke::<(Vec<Remote<dyn Counter>>,), ()>(99, (all,))
+    };
+    assert_eq!(references(32).wait(), Err(CallError::NoMethod));
+    assert_eq!(references(33).wait(), Err(CallError::TooLarge));
+    // A number in so many lists, one within the other.
+    let nested = |lists| {
+        let kind = (1..lists).fold(Kind::Plain, |kind, _| Kind::Pair(0, Box::new(kind)));
+        counter.invoke::<(Kind,), ()>(99, (kind,))
+    };
+    assert_eq!(nested(15).wait(), Err(CallError::NoMethod));
+    assert_eq!(nested(16).wait(), Err(CallError::TooLarge));
+    assert_eq!(counter.add(1).wait(), Ok(1));
+}
+
 #[test]
 fn a_method_that_panics_is_a_fault_from_then_on() {
     let [one, two] = nodes(2, same).try_into().expect("two");
@@ -793,7 +816,10 @@ fn a_node_looks_names_up_at_other_programs() {
 #[test]
 fn only_this_machine_is_spoken_to_without_tls() {
     let far = || Node::builder(id(1), Peers::none()).listen("0.0.0.0:0");
-    assert!(matches!(far().start(), Err(masttomato::NodeError::Insecure)));
+    let Err(error) = far().start() else { panic!("it listens everywhere") };
+    let sentence =
+        "an address isn't this machine's own: without TLS, Builder::insecure must allow that";
+    assert_eq!(error.to_string(), sentence);
     assert!(far().insecure().start().is_ok());
     let peers = Peers::none().with(id(1), "192.0.2.1:7000");
     let two = Node::builder(id(2), peers).start();

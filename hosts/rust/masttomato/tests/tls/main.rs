@@ -8,17 +8,17 @@ mod strangers;
 
 use masttomato::engine::{Flaw, Hello, Life, World};
 use masttomato::{
-    BadIdentity, Builder, CallError, Identity, Node, NodeError, Peers, Remote, Session, SpaceId,
-    Why, interface,
+    BadIdentity, Builder, CallError, Context, Identity, Node, NodeError, Peers, Remote, Session,
+    SpaceId, Why, interface,
 };
 use proxy::Proxy;
 use std::io::{ErrorKind, Read, Write};
 use std::net::{SocketAddr, TcpStream};
 use std::path::{Path, PathBuf};
 use std::process::Command;
-use std::sync::OnceLock;
+use std::sync::{Arc, Mutex, OnceLock};
 use std::time::{Duration, Instant};
-use strangers::{Shown, knock, pose, shown};
+use strangers::{Shown, between, first_words, knock, pose, shown};
 
 /// An object of tests.
 #[interface]
@@ -174,40 +174,107 @@ fn members_call_each_other_and_nobody_reads_it() {
     assert_eq!(local_bell.ring(vec![9]).wait(), Ok(vec![9]));
 }
 
+// What a member says to an owner while it rings once, as it can be seen on the way.
+fn seen_of_a_member(all: &Path, owner: SocketAddr, sound: &[u8]) -> Vec<u8> {
+    let seen = Arc::<Mutex<Vec<u8>>>::default();
+    let notes = seen.clone();
+    let way = between(owner, move || {
+        let notes = notes.clone();
+        Box::new(move |piece| notes.lock().expect("no panic").extend_from_slice(piece))
+    });
+    let two = member(all, 2, "space-2", way.address);
+    assert_eq!(bell(&two).ring(sound.to_vec()).wait_for(MINUTE), Ok(sound.to_vec()));
+    two.shutdown(MINUTE);
+    drop(way);
+    std::mem::take(&mut seen.lock().expect("no panic"))
+}
+
 // What goes over a connection begins as TLS does, and has nothing of what is said.
 #[test]
 fn nothing_that_is_said_can_be_seen() {
     let Some(all) = certificates() else { return };
     let (_owner, address) = owner(all);
-    let listener = std::net::TcpListener::bind("127.0.0.1:0").expect("a port");
-    let seen_at = listener.local_addr().expect("its address");
-    let seen = std::thread::spawn(move || {
-        let (mut near, _) = listener.accept().expect("the member comes");
-        let mut far = TcpStream::connect(address).expect("the owner listens");
-        let (mut back, mut to) =
-            (far.try_clone().expect("a socket"), near.try_clone().expect("one"));
-        let answers = std::thread::spawn(move || {
-            let _end = std::io::copy(&mut back, &mut to);
-        });
-        let (mut seen, mut piece) = (Vec::<u8>::new(), [0; 4_096]);
-        while let Ok(count @ 1..) = near.read(&mut piece) {
-            seen.extend(&piece[..count]);
-            if far.write_all(&piece[..count]).is_err() {
-                break;
-            }
-        }
-        let _end = far.shutdown(std::net::Shutdown::Both);
-        answers.join().expect("no panic");
-        seen
-    });
-    let two = member(all, 2, "space-2", seen_at);
-    let sound = b"a very loud sound".to_vec();
-    assert_eq!(bell(&two).ring(sound.clone()).wait_for(MINUTE), Ok(sound.clone()));
-    two.shutdown(MINUTE);
-    let seen = seen.join().expect("no panic");
+    let sound = b"a very loud sound";
+    let seen = seen_of_a_member(all, address, sound);
     assert_eq!(seen[..2], [22, 3], "a handshake of TLS");
-    for hidden in [&b"NOBN"[..], b"bell", &sound, b"shop"] {
+    for hidden in [&b"NOBN"[..], b"bell", sound, b"shop"] {
         assert!(!seen.windows(hidden.len()).any(|part| part == hidden), "{hidden:?}");
+    }
+}
+
+// Who says again what was seen of a member isn't let in by it, and nothing of it is heard.
+#[test]
+fn what_was_seen_cannot_be_said_again() {
+    let Some(all) = certificates() else { return };
+    let (owner, address) = owner(all);
+    let seen = seen_of_a_member(all, address, b"a sound");
+    let has_left = || matches!(owner.session(id(2)), Session::Closed(_));
+    eventually("the owner has heard all of it", has_left);
+    let before = owner.counts();
+    for count in 1..=3 {
+        let mut stream = TcpStream::connect(address).expect("it listens");
+        let _said = stream.write_all(&seen);
+        eventually("it is turned away", || {
+            owner.counts().turned_away >= before.turned_away + count
+        });
+    }
+    let after = owner.counts();
+    assert_eq!((after.frames_in, after.connects), (before.frames_in, before.connects));
+    assert_rings(&bell(&member(all, 3, "space-3", address)));
+}
+
+// A byte is changed on the way behind every 20,000th: the connection ends there and is opened again, and each call is carried
+// out once, with what was said.
+#[test]
+fn what_is_changed_on_the_way_is_not_taken() {
+    let Some(all) = certificates() else { return };
+    let (owner, address) = owner(all);
+    let way = between(address, || {
+        let mut count = 0;
+        Box::new(move |piece| {
+            count += piece.len();
+            if count > 20_000 {
+                piece[0] ^= 0x10;
+            }
+        })
+    });
+    let two = member(all, 2, "space-2", way.address);
+    let bell = bell(&two);
+    for number in 0..40 {
+        let sound = vec![number; 4_000];
+        assert_eq!(bell.ring(sound.clone()).wait_for(MINUTE), Ok(sound));
+    }
+    assert!(two.counts().connects > 5, "{:?}", two.counts());
+    assert_eq!((owner.counts().misbehaved, two.counts().misbehaved), (0, 0));
+    drop((bell, two));
+}
+
+/// An object that isn't for everybody.
+#[interface]
+pub trait Safe {
+    /// Whether it opens for who calls.
+    fn open(&mut self, context: &Context) -> bool;
+}
+
+struct Steel;
+
+impl Safe for Steel {
+    fn open(&mut self, context: &Context) -> bool {
+        context.caller() == id(2)
+    }
+}
+
+// Any member may call it, and it asks who does: a certificate says so.
+#[test]
+fn an_object_knows_who_calls() {
+    let Some(all) = certificates() else { return };
+    let (owner, address) = owner(all);
+    let safe = owner.export::<dyn Safe>(Box::new(Steel)).expect("room");
+    owner.bind("safe", &safe).expect("a name");
+    for (number, name, opens) in [(2, "space-2", true), (3, "space-3", false)] {
+        let node = member(all, number, name, address);
+        let safe: Remote<dyn Safe> = node.lookup(id(1), "safe").wait_for(MINUTE).expect("a safe");
+        assert_eq!(safe.open().wait_for(MINUTE), Ok(opens));
     }
 }
 
@@ -230,6 +297,44 @@ fn a_certificate_may_name_a_range() {
 
 // ---- strangers --------------------------------------------------------------------------------------
 
+/// Who comes, what is shown, what is said, and why that isn't enough.
+type Stranger = (&'static str, Option<Shown>, Hello, Why, &'static str);
+
+// The first nine don't come as far as a hello, which would be answered. README.md has the sentences.
+fn strangers_of(all: &Path) -> Vec<Stranger> {
+    let of = |folder: &str, name: &str| Some(shown(&all.join(folder), name));
+    let mut long: Shown = shown(all, "space-3");
+    long.chain.extend(std::iter::repeat_n(shown(all, "authority").chain.remove(0), 3));
+    let three = hello(3, "shop", 33);
+    use Flaw::{Expired, Missing, NotYet, OtherAuthority, OtherName, Unfit};
+    let authority = "its certificate isn't signed by this world's authority";
+    let name = "its certificate doesn't name this space of this world";
+    let unfit = "its certificate is none of a node: an authority's own, or for other uses";
+    let used = "its number was used by an earlier life: a process that starts again takes the next number, or keeps bounds and comes back";
+    let shows =
+        |what, shown, flaw, sentence| (what, shown, three, Why::Certificate(flaw), sentence);
+    vec![
+        shows("no certificate", None, Missing, "it shows no certificate"),
+        shows("signed by itself", of("", "alone"), OtherAuthority, authority),
+        shows("another authority", of("other", "space-2"), OtherAuthority, authority),
+        shows("expired", of("past", "space-2"), Expired, "its certificate has expired"),
+        shows("not valid yet", of("ahead", "space-2"), NotYet, "its certificate isn't valid yet"),
+        shows("another world", of("bank", "space-2"), OtherName, name),
+        shows("all names at once", of("wild", "space-2"), OtherName, name),
+        shows("the authority itself", of("", "authority"), Unfit, unfit),
+        shows("a long chain", Some(long), Unfit, unfit),
+        shows("another's number", of("", "space-4-6"), OtherName, name),
+        (
+            "a hello of another world",
+            of("", "space-3"),
+            hello(3, "bank", 33),
+            Why::OtherWorld,
+            "it is of another world",
+        ),
+        ("a number that is used", of("", "space-2"), hello(2, "shop", 99), Why::NumberUsed, used),
+    ]
+}
+
 // What an owner says of who comes, as each of these does; meanwhile a member rings.
 #[test]
 fn who_is_no_member_is_turned_away_with_a_sentence() {
@@ -237,28 +342,8 @@ fn who_is_no_member_is_turned_away_with_a_sentence() {
     let (owner, address) = owner(all);
     let two = member(all, 2, "space-2", address);
     let bell = bell(&two);
-    let of = |folder: &str, name: &str| Some(shown(&all.join(folder), name));
-    let mut long: Shown = shown(all, "space-3");
-    long.chain.extend(std::iter::repeat_n(shown(all, "authority").chain.remove(0), 3));
-    let three = hello(3, "shop", 33);
-    let another_life = hello(2, "shop", 99);
-    use Flaw::{Expired, Missing, NotYet, OtherAuthority, OtherName, Unfit};
-    let certificate = Why::Certificate;
-    let cases = [
-        ("no certificate", None, three, certificate(Missing)),
-        ("signed by itself", of("", "alone"), three, certificate(OtherAuthority)),
-        ("another authority", of("other", "space-2"), three, certificate(OtherAuthority)),
-        ("expired", of("past", "space-2"), three, certificate(Expired)),
-        ("not valid yet", of("ahead", "space-2"), three, certificate(NotYet)),
-        ("another world", of("bank", "space-2"), three, certificate(OtherName)),
-        ("all names at once", of("wild", "space-2"), three, certificate(OtherName)),
-        ("the authority itself", of("", "authority"), three, certificate(Unfit)),
-        ("a long chain", Some(long), three, certificate(Unfit)),
-        ("another's number", of("", "space-4-6"), three, certificate(OtherName)),
-        ("a hello of another world", of("", "space-3"), hello(3, "bank", 33), Why::OtherWorld),
-        ("a number that is used", of("", "space-2"), another_life, Why::NumberUsed),
-    ];
-    for (place, (what, shown, said, wanted)) in cases.into_iter().enumerate() {
+    let strangers = strangers_of(all).into_iter().enumerate();
+    for (place, (what, shown, said, wanted, sentence)) in strangers {
         let answer = knock(address, shown.as_ref(), &said.to_bytes());
         // Who has a certificate of this world is answered, and hears why it isn't let in.
         if let Ok(answer) = &answer {
@@ -274,7 +359,7 @@ fn who_is_no_member_is_turned_away_with_a_sentence() {
         eventually(what, is_told);
         let turned_away = owner.report().expect("it runs").turned_away.expect("the last one");
         assert_eq!((what, turned_away.why), (what, wanted));
-        assert!(turned_away.to_string().starts_with("127.0.0.1:"), "{turned_away}");
+        assert_eq!(turned_away.to_string(), format!("{}: {sentence}", turned_away.from));
         assert_rings(&bell);
     }
     assert_eq!((owner.session(id(2)), owner.counts().misbehaved), (Session::Open, 0));
@@ -288,7 +373,10 @@ fn who_speaks_no_tls_is_turned_away() {
     let (owner, address) = owner(all);
     let two = member(all, 2, "space-2", address);
     let bell = bell(&two);
-    for said in [&hello(3, "shop", 33).to_bytes()[..], &[0xff; 300], b"GET / HTTP/1.1\r\n\r\n"] {
+    // It says that its first words will be 16 MB, and begins them.
+    let endless = [&[22, 3, 1, 0x40, 0, 1, 0xff, 0xff, 0xff][..], &[7; 0x3fff]].concat();
+    let plain = hello(3, "shop", 33).to_bytes();
+    for said in [&plain[..], &[0xff; 300], b"GET / HTTP/1.1\r\n\r\n", &endless] {
         let before = owner.counts().turned_away;
         let mut stream = TcpStream::connect(address).expect("it listens");
         stream.write_all(said).expect("a socket");
@@ -312,9 +400,10 @@ fn who_poses_as_another_is_not_talked_to() {
         ("another authority", of("other", "space-1"), Flaw::OtherAuthority),
         ("signed by itself", of("", "alone"), Flaw::OtherAuthority),
         ("expired", of("past", "space-2"), Flaw::Expired),
-        ("no TLS", plain.address().expect("it listens"), Flaw::NoTls),
     ];
-    for (what, address, flaw) in cases {
+    let posing = cases.iter().map(|(what, posing, flaw)| (*what, posing.address, *flaw));
+    let plain = ("no TLS", plain.address().expect("it listens"), Flaw::NoTls);
+    for (what, address, flaw) in posing.chain([plain]) {
         let two = member(all, 2, "space-2", address);
         let refused = Session::Refused(Why::Certificate(flaw));
         eventually(what, || two.session(id(1)) == refused);
@@ -378,6 +467,34 @@ fn handshakes_are_bounded_in_count_and_time() {
     let three = member(all, 3, "space-3", address);
     assert_rings(&self::bell(&three));
     assert!(owner.counts().turned_away >= 65);
+}
+
+// As many strangers come as can in some seconds, of whom each third begins a handshake, which costs the door a signature: a
+// member that is there goes on, on the connection that it had.
+#[test]
+fn strangers_who_come_without_a_pause_leave_members_alone() {
+    let Some(all) = certificates() else { return };
+    let (owner, address) = owner(all);
+    let two = member(all, 2, "space-2", address);
+    let bell = bell(&two);
+    let words = [Vec::new(), vec![0xff; 300], first_words()];
+    std::thread::scope(|scope| {
+        let come = scope.spawn(|| {
+            for words in words.iter().cycle().take(3_000) {
+                let mut stream = TcpStream::connect(address).expect("it listens");
+                let _said = stream.write_all(words);
+            }
+        });
+        let mut rung = 0;
+        while !come.is_finished() || rung == 0 {
+            assert_rings(&bell);
+            rung += 1;
+        }
+        come.join().expect("no panic");
+    });
+    eventually("all are turned away", || owner.counts().turned_away == 3_000);
+    assert_eq!((two.counts().connects, owner.session(id(2))), (1, Session::Open));
+    assert_rings(&self::bell(&member(all, 3, "space-3", address)));
 }
 
 // ---- who a node is ----------------------------------------------------------------------------------

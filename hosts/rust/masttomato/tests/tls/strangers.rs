@@ -6,9 +6,11 @@ use rustls::{
     ServerName, Stream,
 };
 use std::io::{BufReader, Read, Write};
-use std::net::{SocketAddr, TcpListener, TcpStream};
+use std::net::{Shutdown, SocketAddr, TcpListener, TcpStream};
 use std::path::Path;
 use std::sync::Arc;
+use std::sync::atomic::{AtomicBool, Ordering::SeqCst};
+use std::thread::{self, JoinHandle};
 use std::time::{Duration, SystemTime};
 
 /// A certificate, those behind it, and the key.
@@ -46,8 +48,7 @@ impl ServerCertVerifier for Anybody {
     }
 }
 
-/// Connects, shows this, says these bytes and waits for an answer as long: it, or why there is none.
-pub fn knock(address: SocketAddr, shown: Option<&Shown>, said: &[u8]) -> Result<Vec<u8>, String> {
+fn connection_of(shown: Option<&Shown>) -> ClientConnection {
     let builder = ClientConfig::builder()
         .with_safe_defaults()
         .with_custom_certificate_verifier(Arc::new(Anybody));
@@ -58,7 +59,19 @@ pub fn knock(address: SocketAddr, shown: Option<&Shown>, said: &[u8]) -> Result<
         None => builder.with_no_client_auth(),
     };
     let name = ServerName::try_from("whoever.is.there").expect("a name");
-    let mut connection = ClientConnection::new(Arc::new(config), name).expect("it is known");
+    ClientConnection::new(Arc::new(config), name).expect("it is known")
+}
+
+/// What somebody says who begins a handshake of TLS.
+pub fn first_words() -> Vec<u8> {
+    let mut words = Vec::new();
+    connection_of(None).write_tls(&mut words).expect("a Vec takes all");
+    words
+}
+
+/// Connects, shows this, says these bytes and waits for an answer as long: it, or why there is none.
+pub fn knock(address: SocketAddr, shown: Option<&Shown>, said: &[u8]) -> Result<Vec<u8>, String> {
+    let mut connection = connection_of(shown);
     let mut stream = TcpStream::connect(address).expect("somebody listens");
     stream.set_read_timeout(Some(Duration::from_secs(60))).expect("a socket");
     let mut stream = Stream::new(&mut connection, &mut stream);
@@ -71,22 +84,75 @@ pub fn knock(address: SocketAddr, shown: Option<&Shown>, said: &[u8]) -> Result<
     Ok(answer)
 }
 
-/// Listens, and shows this to whoever comes, one after the other; says nothing more.
-pub fn pose(shown: &Shown) -> SocketAddr {
-    let listener = TcpListener::bind("127.0.0.1:0").expect("a port");
-    let address = listener.local_addr().expect("it has one");
+/// Somebody who listens and takes one connection after the other, until this is dropped.
+pub struct Listens {
+    pub address: SocketAddr,
+    ends: Arc<AtomicBool>,
+    thread: Option<JoinHandle<()>>,
+}
+
+impl Listens {
+    fn and(mut take: impl FnMut(TcpStream) + Send + 'static) -> Listens {
+        let listener = TcpListener::bind("127.0.0.1:0").expect("a port");
+        let address = listener.local_addr().expect("it has one");
+        let ends = Arc::<AtomicBool>::default();
+        let told = ends.clone();
+        let thread = thread::spawn(move || {
+            for stream in listener.incoming().flatten() {
+                if told.load(SeqCst) {
+                    return;
+                }
+                take(stream);
+            }
+        });
+        Listens { address, ends, thread: Some(thread) }
+    }
+}
+
+impl Drop for Listens {
+    fn drop(&mut self) {
+        self.ends.store(true, SeqCst);
+        // It waits for a connection.
+        let _woken = TcpStream::connect(self.address);
+        let _ended = self.thread.take().map(JoinHandle::join);
+    }
+}
+
+/// Shows this to whoever comes; says nothing more.
+pub fn pose(shown: &Shown) -> Listens {
     let config = ServerConfig::builder()
         .with_safe_defaults()
         .with_no_client_auth()
         .with_single_cert(shown.chain.clone(), shown.key.clone())
         .expect("a key");
     let config = Arc::new(config);
-    // It ends with the process.
-    std::thread::spawn(move || {
-        for mut stream in listener.incoming().flatten() {
-            let mut connection = ServerConnection::new(config.clone()).expect("it is known");
-            let _heard = Stream::new(&mut connection, &mut stream).read(&mut [0]);
+    Listens::and(move |mut stream| {
+        let mut connection = ServerConnection::new(config.clone()).expect("it is known");
+        let _heard = Stream::new(&mut connection, &mut stream).read(&mut [0]);
+    })
+}
+
+/// Carries each connection to a node and back. What goes to the node is shown before, piece by piece, and may be changed.
+pub fn between(
+    target: SocketAddr,
+    mut begin: impl FnMut() -> Box<dyn FnMut(&mut [u8])> + Send + 'static,
+) -> Listens {
+    Listens::and(move |mut near| {
+        let mut far = TcpStream::connect(target).expect("the node listens");
+        let both = (far.try_clone().expect("a socket"), near.try_clone().expect("a socket"));
+        let back = thread::spawn(move || {
+            let (mut far, mut near) = both;
+            let _end = std::io::copy(&mut far, &mut near);
+            let _was_closed = near.shutdown(Shutdown::Both);
+        });
+        let (mut look, mut piece) = (begin(), [0; 4_096]);
+        while let Ok(count @ 1..) = near.read(&mut piece) {
+            look(&mut piece[..count]);
+            if far.write_all(&piece[..count]).is_err() {
+                break;
+            }
         }
-    });
-    address
+        let _was_closed = far.shutdown(Shutdown::Both);
+        back.join().expect("no panic");
+    })
 }
