@@ -14,69 +14,62 @@ fn later() -> Birth {
     }
 }
 
+/// So many indexes, calls and jobs there are at most.
+const LAST: u64 = 281_474_976_710_656;
+
+/// So many calls and jobs a session has at most.
+const MOST_A_SESSION: u64 = 1_099_511_627_776;
+
 // Writes what is said of births that are in range only just, or only just not.
 pub fn say_births(rt: &HostRuntime) -> io::Result<()> {
-    let last = 281_474_976_710_656;
-    let most = 1_099_511_627_776;
     say_birth(rt, "a new space's", Birth::default())?;
     say_birth(rt, "a later one's", later())?;
-    say_birth(
-        rt,
-        "the last index",
-        Birth {
-            indexes: last,
-            ..later()
-        },
-    )?;
-    say_birth(
-        rt,
-        "one index more",
-        Birth {
-            indexes: last + 1,
-            ..later()
-        },
-    )?;
-    say_birth(
-        rt,
-        "one call too many",
-        Birth {
-            calls: last + 1,
-            ..later()
-        },
-    )?;
-    say_birth(
-        rt,
-        "one job too many",
-        Birth {
-            jobs: last + 1,
-            ..later()
-        },
-    )?;
-    say_birth(
-        rt,
-        "the old sessions",
-        Birth {
-            sessions: [1; 32],
-            ..later()
-        },
-    )?;
-    say_birth(
-        rt,
-        "all calls of two sessions",
-        Birth {
-            calls: most + most,
-            ..later()
-        },
-    )?;
-    say_birth(
-        rt,
-        "and a job",
-        Birth {
-            calls: most + most,
-            jobs: 1,
-            ..later()
-        },
-    )
+    say_bounds(rt)?;
+    say_sessions(rt)
+}
+
+// Those whose indexes, calls or jobs are the last, or one more.
+fn say_bounds(rt: &HostRuntime) -> io::Result<()> {
+    let last_index = Birth {
+        indexes: LAST,
+        ..later()
+    };
+    let index_more = Birth {
+        indexes: LAST + 1,
+        ..later()
+    };
+    let call_more = Birth {
+        calls: LAST + 1,
+        ..later()
+    };
+    let job_more = Birth {
+        jobs: LAST + 1,
+        ..later()
+    };
+    say_birth(rt, "the last index", last_index)?;
+    say_birth(rt, "one index more", index_more)?;
+    say_birth(rt, "one call too many", call_more)?;
+    say_birth(rt, "one job too many", job_more)
+}
+
+// Those of whose sessions there are too few, or just enough, for the calls and jobs.
+fn say_sessions(rt: &HostRuntime) -> io::Result<()> {
+    let old_sessions = Birth {
+        sessions: [1; 32],
+        ..later()
+    };
+    let all_calls = Birth {
+        calls: MOST_A_SESSION + MOST_A_SESSION,
+        ..later()
+    };
+    let job_beside = Birth {
+        calls: MOST_A_SESSION + MOST_A_SESSION,
+        jobs: 1,
+        ..later()
+    };
+    say_birth(rt, "the old sessions", old_sessions)?;
+    say_birth(rt, "all calls of two sessions", all_calls)?;
+    say_birth(rt, "and a job", job_beside)
 }
 
 // Writes what is said of a birth.
