@@ -1,3 +1,4 @@
+pub mod Leads
 pub mod Words
 pub mod Trips
 pub mod Reached

@@ -25,14 +25,14 @@ use Rattle.nob_model.specs.Right.{last_number, calls_made, jobs_made}
 use Rattle.nob_model_lives.specs.Births.{Birth, IsBorn, CanHaveHad, IsNewBirth, IsLaterBirth}
 use Rattle.nob_model_births.specs.Reached.{ReachedLaw}
 use Rattle.nob_model_lives.proofs.Begin.{new_law}
-use Rattle.nob_model_lives.proofs.Leads.{Leads, stays, leads_by, leads_on, leads_as}
+use Rattle.nob_model_births.proofs.Leads.{Leads, stays, leads_by, leads_on, leads_as, led_alone, entries_behind}
 use Rattle.nob_model_lives.proofs.Shown.{Shown, shown_by}
 use Rattle.nob_model_lives.proofs.Still.{AreGone}
 use Rattle.nob_model_lives.proofs.Withdraws.{Waits}
 use Rattle.nob_model_lives.proofs.Peers.{strangers_unasked}
 use Rattle.nob_model_lives.proofs.Opens.{open_right, open_shows, next_of, next_shown}
 use Rattle.nob_model_lives.proofs.Passes.{idle_call}
-use Rattle.nob_model_lives.proofs.Born.{HasWords, rest_all, reach_none, open_all, born_behind, Reaches}
+use Rattle.nob_model_lives.proofs.Born.{HasWords, rest_all, reach_none, open_all, born_by, Reaches}
 use Rattle.nob_model_births.proofs.Words.{Stands, acknowledgement, parcel}
 use Rattle.nob_model_births.proofs.Trips.{Talks, none_keeps, asked_keeps, asked, reply, asked_here, reply_spelt, asked_spelt, job_from, frames_to, transmits, is_acknowledged, is_brought, brought_first, calls_one, reply_comes, takes_reply, job_comes, claims, finishes}
 
@@ -221,7 +221,7 @@ module _ (s n : ℕ) (limits : Limits) (p : ℕ) (peer : is_peer s n p ≡ true)
   rests g m calls jobs D its =
       leads_as (λ E. Waits s n limits (shown_by s n D) E × AreGone s E) (AtRest calls jobs g) D
       (λ E there. (shown_by s n D, record { indexes = its.indexes; calls_are = its.made; jobs_are = its.claimed; given = its.given; heard = its.heard }, there.0, there.1))
-      (rest_all s n limits D its.right)
+      (led_alone (λ E. Waits s n limits (shown_by s n D) E × AreGone s E) D (rest_all s n limits D its.right))
 
   -- the numbers of the others are still theirs, and that of p is at most so high
   record IsWithin (top : ℕ) (g : ℕ → ℕ) : Type 0 where
@@ -292,15 +292,15 @@ module _ (s n : ℕ) (limits : Limits) (birth : Birth) (later : IsLaterBirth s n
   born_from : (x : Shown) (D : List Deed) → Waits s n limits x D → AreGone s D → x.indexes ≡ 0 → x.calls ≡ birth.calls → x.jobs ≡ birth.jobs → ((q : ℕ) → is_peer s n q ≡ true → next_of x q ≤ birth.session q) → Leads (HasWords s n limits birth) D
   born_from x D waits gone indexes calls jobs below =
       leads_on (Reaches s n limits birth 0) (HasWords s n limits birth) D
-      (reach_none s n limits birth x D waits gone (omega (arith, indexes)) later.indexes calls jobs below)
-      (λ E reach. open_all s n limits birth E (λ q peer. (later.sessions q peer).1) reach)
+      (led_alone (Reaches s n limits birth 0) D (reach_none s n limits birth x D waits gone (omega (arith, indexes)) later.indexes calls jobs below))
+      (λ E reach. led_alone (HasWords s n limits birth) E (open_all s n limits birth E (λ q peer. (later.sessions q peer).1) reach))
 
   next_within : (number heard m top : ℕ) → number ≡ m → heard ≤ m → m + 1 ≤ top → max (number + 1) heard ≤ top
   next_within number heard m top same low room = omega (arith, same, low, room)
 
   none_before : birth.calls + birth.jobs ≡ 0 → Leads (HasWords s n limits birth) []
   none_before none =
-      leads_on (λ E. Waits s n limits (shown_by s n []) E × AreGone s E) (HasWords s n limits birth) [] (rest_all s n limits [] tt)
+      leads_on (λ E. Waits s n limits (shown_by s n []) E × AreGone s E) (HasWords s n limits birth) [] (led_alone (λ E. Waits s n limits (shown_by s n []) E × AreGone s E) [] (rest_all s n limits [] tt))
       (λ E there. born_from (shown_by s n []) E there.0 there.1 refl (omega (arith, none)) (omega (arith, none)) (λ q peer. let low = (later.sessions q peer).0 in next_within 1 0 1 (birth.session q) refl (omega arith) (omega (arith, low))))
 
   some_before : (p : ℕ) → is_peer s n p ≡ true → birth.calls + birth.jobs ≤ last_item * (birth.session p - 1) → 1 ≤ limits.window → Leads (HasWords s n limits birth) []
@@ -351,5 +351,6 @@ reached_new s n limits birth is =
 pub reached_law : ReachedLaw
 reached_law s n limits birth some (inl new) = ([], reached_new s n limits birth new)
 reached_law s n limits birth some (inr later) =
-    let found = born_behind s n limits birth [] tt (reached_later s n limits birth later some later.earlier) in
-    (found.0 ++ [], found.1)
+    let lead = reached_later s n limits birth later some later.earlier in
+    let found = entries_behind s n limits [] tt lead.0 lead.1.right in
+    (found.0 ++ [], born_by s n limits birth (found.0 ++ []) (lead.0 ++ []) found.1 found.2 lead.1)

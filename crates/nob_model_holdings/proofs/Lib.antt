@@ -4,3 +4,5 @@ pub mod Hands
 pub mod Holding
 pub mod Granted
 pub mod Holdings
+pub mod Alive
+pub mod Receivers

@@ -1,6 +1,6 @@
 -- Lists: what holds of all elements, elements at a place, and beginnings.
-use Rattle.std.proofs.Common.{◌≡◌, Bool, true, false, cond, filter, ℕ, zero, suc, List, [], ◌∷◌, ◌++◌, length, map, Some, None, refl, sym, ap, subst, ◌∙◌, append_assoc}
-use Rattle.std.specs.List.{AllByRecursion, slice_get}
+use Rattle.std.proofs.Common.{◌≡◌, ◌||◌, Bool, true, false, cond, filter, ℕ, zero, suc, List, [], ◌∷◌, ◌++◌, length, map, Some, None, refl, sym, ap, subst, ◌∙◌, append_assoc}
+use Rattle.std.specs.List.{AllByRecursion, slice_get, list_any}
 use Rattle.nob_model_session.specs.Pair.{IsBeginning}
 
 -- ---- all elements
@@ -92,3 +92,18 @@ pub begins_further : {X : Type 0} (xs whole : List X) (x : X) → IsBeginning xs
 begins_further xs whole x begins at =
     let next = next_of_rest xs begins.0 x (subst (λ ys. slice_get ys (length xs) ≡ Some x) (sym begins.1) at) in
     (next.0, append_assoc xs (x ∷ []) next.0 ∙ ap (λ ys. xs ++ ys) (sym next.1) ∙ begins.1)
+
+-- ---- whether any element passes a test
+
+pub or_false : (b : Bool) → (b || false) ≡ b
+or_false true = refl
+or_false false = refl
+
+-- a list with one element more has one that passes if it had one before, or if that one does
+pub any_push : {X : Type 0} (test : X → Bool) (xs : List X) (x : X) → list_any test (xs ++ x ∷ []) ≡ (list_any test xs || test x)
+any_push test [] x = or_false (test x)
+any_push test (y ∷ xs) x = ap (λ (b : Bool). test y || b) (any_push test xs x) ∙ or_or (test y) (list_any test xs) (test x)
+  where
+    or_or : (a b c : Bool) → (a || (b || c)) ≡ ((a || b) || c)
+    or_or true b c = refl
+    or_or false b c = refl

@@ -54,7 +54,8 @@ use Rattle.nob_model_invariant.specs.LossLaws.{LeaksLaw}
 use Rattle.nob_model_invariant.specs.Leaks.{IsHeardOut, IsAtRest, Quiet}
 use Rattle.nob_model_invariant.proofs.Done.{act_peer}
 use Rattle.nob_model_invariant.proofs.Known.{IsKnown, all_known}
-use Rattle.nob_model_invariant.proofs.Placed.{IsPlaced, all_placed, sent_to_peers, stands_last}
+use Rattle.nob_model_holdings.proofs.Receivers.{sent_to_peers}
+use Rattle.nob_model_invariant.proofs.Placed.{IsPlaced, all_placed, stands_last}
 use Rattle.nob_model_invariant.proofs.Points.{settled}
 
 none_some : {X : Type 0} (x : X) → None ≡ Some x → ⊥

@@ -45,7 +45,6 @@ pub mod Closing
 pub mod Bad
 pub mod Places
 pub mod Settling
-pub mod Alive
 pub mod Settled
 pub mod Bundles
 pub mod Sent

@@ -46,11 +46,11 @@ use Rattle.nob_model_journal.specs.Runs.{WorldRun}
 use Rattle.nob_model_invariant.specs.Typed.{AreOfTypes}
 use Rattle.nob_model_invariant.specs.Naming.{object_of, named_in, WasExported, NamesExported}
 use Rattle.nob_model_invariant.specs.SafetyLaws.{NamesLaw}
-use Rattle.nob_model_holdings.proofs.Lists.{all_append, all_at, all_split, all_both, all_pass, all_unfilter, some_same}
+use Rattle.nob_model_holdings.proofs.Lists.{all_append, all_at, all_split, all_both, all_pass, all_unfilter, any_push, some_same}
 use Rattle.nob_model_holdings.proofs.Typing.{next_none, refs_held}
 use Rattle.nob_model_holdings.proofs.Hands.{New, outstanding_more, hand_weaker}
 use Rattle.nob_model_invariant.proofs.Entries.{grows, right_deeds_at}
-use Rattle.nob_model_invariant.proofs.Owners.{any_push, exported_later}
+use Rattle.nob_model_invariant.proofs.Owners.{exported_later}
 use Rattle.nob_model_invariant.proofs.Order.{acts_on_next, all_fit}
 use Rattle.nob_model_holdings.proofs.Holding.{OfCounted, HoldsOf, held_has}
 

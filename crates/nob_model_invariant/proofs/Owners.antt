@@ -43,6 +43,7 @@ use Rattle.nob_model_invariant.proofs.BySession.{sent_stays}
 use Rattle.nob_model_invariant.proofs.Opened.{opens_above}
 use Rattle.nob_model_invariant.proofs.Anew.{none_sent_new}
 use Rattle.nob_model_invariant.proofs.Bools.{dirties_push, last_push, word_push}
+use Rattle.nob_model_holdings.proofs.Lists.{or_false, any_push}
 
 -- what space s answered a client for an index in the session in which it is, and what the client asked
 abbrev pub gave_of : (s n c x : ℕ) → List Deed → List Bool
@@ -68,18 +69,6 @@ ok_push (false ∷ answers) answer first none = no_push answers answer first (el
     no_push : (answers : List Bool) (answer : Bool) → AllByRecursion (λ (b : Bool). b ≡ false) answers → answer ≡ false → AllByRecursion (λ (b : Bool). b ≡ false) (answers ++ answer ∷ [])
     no_push [] answer all is = (is, tt)
     no_push (first ∷ answers) answer all is = (all.0, no_push answers answer all.1 is)
-
-or_false : (b : Bool) → (b || false) ≡ b
-or_false true = refl
-or_false false = refl
-
-pub any_push : {X : Type 0} (test : X → Bool) (xs : List X) (x : X) → list_any test (xs ++ x ∷ []) ≡ (list_any test xs || test x)
-any_push test [] x = or_false (test x)
-any_push test (y ∷ xs) x = ap (λ (b : Bool). test y || b) (any_push test xs x) ∙ or_or (test y) (list_any test xs) (test x)
-  where
-    or_or : (a b c : Bool) → (a || (b || c)) ≡ ((a || b) || c)
-    or_or true b c = refl
-    or_or false b c = refl
 
 -- an object that is live was not denied
 never_denied : (exported withdrawn denied : Bool) → (denied ≡ true → (exported ≡ true) × (withdrawn ≡ true)) → (exported && not withdrawn) ≡ true → denied ≡ false

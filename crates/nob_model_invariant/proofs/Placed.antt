@@ -73,20 +73,6 @@ pub all_placed : (s n : ℕ) (D : List Deed) → AllByRecursion (IsPlaced (sent 
 all_placed s n [] = tt
 all_placed s n (deed ∷ D) = placed_gifts D (gifts s n deed D (work s n D)) (sent (history_of s n D)) (all_placed s n D)
 
--- ---- receivers are peers
-
-new_to_peers : (s n : ℕ) (D : List Deed) (more : List Gift) (before : List SentItem) → AllByRecursion (λ (gift : Gift). is_peer s n gift.to ≡ true) more → AllByRecursion (λ (one : SentItem). is_peer s n one.to ≡ true) (new_items D before more)
-new_to_peers s n D [] before all = tt
-new_to_peers s n D (gift ∷ more) before all = (all.0, new_to_peers s n D more (before ++ next_sent D before gift ∷ []) all.1)
-
-pub sent_to_peers : (s n : ℕ) (D : List Deed) → AllByRecursion (λ (one : SentItem). is_peer s n one.to ≡ true) (sent (history_of s n D))
-unfolding gifts
-sent_to_peers s n [] = tt
-sent_to_peers s n (deed ∷ D) =
-    subst (AllByRecursion (λ (one : SentItem). is_peer s n one.to ≡ true)) (sym (sent_more s n deed D))
-    (all_append (λ (one : SentItem). is_peer s n one.to ≡ true) (sent (history_of s n D)) _ (sent_to_peers s n D)
-    (new_to_peers s n D (gifts s n deed D (work s n D)) (sent (history_of s n D)) (all_pass (λ (gift : Gift). is_peer s n gift.to) (gifts_of s n deed D (work s n D)))))
-
 -- ---- what was asked for
 
 -- a Dirty among asks

@@ -27,7 +27,7 @@ use Rattle.nob_model.proofs.Doing.{was_answered}
 use Rattle.nob_model.proofs.Replying.{is_reply, replies_in, answered_once}
 use Rattle.nob_model.proofs.Waiting.{settled_message, all_weaker}
 use Rattle.nob_model_invariant.proofs.Opened.{opens_above}
-use Rattle.nob_model_invariant.proofs.Owners.{any_push}
+use Rattle.nob_model_holdings.proofs.Lists.{any_push}
 use Rattle.nob_model_invariant.specs.Copies.{is_waiting}
 
 -- ---- lists of messages

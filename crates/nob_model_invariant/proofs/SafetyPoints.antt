@@ -17,7 +17,7 @@ use Rattle.nob_model_invariant.specs.Settles.{settles_among, AreOnce, IsCarrying
 use Rattle.nob_model.proofs.Guarding.{listed_law, pinned_law}
 use Rattle.nob_model.specs.Right.{own_ref}
 use Rattle.nob_model_history.specs.Transit.{pins, sent}
-use Rattle.nob_model_invariant.proofs.Alive.{held_alive}
+use Rattle.nob_model_holdings.proofs.Alive.{held_alive}
 use Rattle.nob_model_invariant.proofs.Settling.{settles_of, settled_once}
 use Rattle.nob_model_invariant.proofs.Settled.{settled_carry}
 use Rattle.nob_model_journal.specs.Journals.{deeds_at, history_at, sent_in, acted_during, acted_in}

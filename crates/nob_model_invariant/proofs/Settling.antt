@@ -36,9 +36,8 @@ use Rattle.nob_model.proofs.Waiting.{AreApart, IsOpenIn, are_waiting, settled_me
 use Rattle.nob_model.specs.Lists.{IsRightDeed, AreRightDeeds}
 use Rattle.nob_model_history.proofs.Inbox.{takes_no_fewer}
 use Rattle.nob_model_history.proofs.Sessions.{opens, number_kept}
-use Rattle.nob_model_holdings.proofs.Lists.{all_both}
+use Rattle.nob_model_holdings.proofs.Lists.{all_both, any_push}
 use Rattle.nob_model_invariant.specs.Settles.{settle_in, is_in, AreOnce}
-use Rattle.nob_model_invariant.proofs.Owners.{any_push}
 use Rattle.nob_model_invariant.proofs.Opened.{opens_above}
 use Rattle.nob_model_invariant.proofs.Anew.{none_sent_new}
 

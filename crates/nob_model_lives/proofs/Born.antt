@@ -25,6 +25,7 @@ use Rattle.nob_model_history.proofs.Anew.{calls_opened, begins_anew_after, close
 use Rattle.nob_model.specs.Opening.{next_number}
 use Rattle.nob_model.specs.Right.{last_number, calls_made, jobs_made}
 use Rattle.nob_model.specs.Lists.{AreRight, AreRightDeeds}
+use Rattle.nob_model_lives.specs.Alone.{AreOfBridge}
 use Rattle.nob_model_lives.specs.Births.{Birth, IsBorn}
 use Rattle.nob_model_lives.proofs.Closes.{Rests, below_or_next, close_all}
 use Rattle.nob_model_lives.proofs.Finishes.{Idles, finish_all}
@@ -102,7 +103,7 @@ module _ (s n : ℕ) (limits : Limits) (birth : Birth) where
       let k : ℕ = next_number p (history_of s n D) in
       let before = its.later p e (omega arith) in
       let right = open_right s n limits p D its.still e before.0 (let room = rooms p e in let is = before.1 in omega (arith, room, is)) in
-      leads_by (AreOpen (suc m)) (did.Open p k) D record {
+      leads_by (AreOpen (suc m)) (did.Open p k) D refl record {
         still = open_still s n limits p k D right before.0 its.still;
         gone = its.gone;
         counts = record { indexes = its.counts.indexes; calls = its.counts.calls; jobs = its.counts.jobs };
@@ -260,24 +261,26 @@ module _ (s n : ℕ) (limits : Limits) where
       })
       (skip_all s n limits m x D waits gone (omega (arith, low, last)))
 
-  -- what deeds lead to is what entries behind the right entries lead to
-  pub born_behind : (birth : Birth) (L : List Entry) → AreRight s n limits L → Leads (HasWords s n limits birth) (deeds L) → (bridge : List Entry) × IsBorn s n limits birth (bridge ++ L)
+  -- right entries that did deeds by which each word is as at the birth are such that the space is born
+  pub born_by : (birth : Birth) (K : List Entry) (D : List Deed) → AreRight s n limits K → deeds K ≡ D → HasWords s n limits birth D → IsBorn s n limits birth K
+  born_by birth K D right same its =
+      let words : HasWords s n limits birth (deeds K) = subst (HasWords s n limits birth) (sym same) its in record {
+        right = right;
+        indexes = words.counts.indexes;
+        calls = words.counts.calls;
+        jobs = words.counts.jobs;
+        none_live = words.none_live;
+        none_in_hand = words.none_in_hand;
+        none_outstanding = words.none_outstanding;
+        none_listed = words.none_listed;
+        none_pinned = words.none_pinned;
+        none_asked = words.none_asked;
+        sessions = words.sessions;
+        none_higher = words.none_higher;
+      }
+
+  -- what deeds that need nobody else lead to is what entries of a bridge behind the right entries lead to
+  pub born_behind : (birth : Birth) (L : List Entry) → AreRight s n limits L → Leads (HasWords s n limits birth) (deeds L) → (bridge : List Entry) × AreOfBridge s bridge × IsBorn s n limits birth (bridge ++ L)
   born_behind birth L right leads =
-      let found = entries_behind s n limits L right leads.0 leads.1.right in
-      let words : HasWords s n limits birth (deeds (found.0 ++ L)) = subst (HasWords s n limits birth) (sym found.2) leads.1 in (
-        found.0,
-        record {
-          right = found.1;
-          indexes = words.counts.indexes;
-          calls = words.counts.calls;
-          jobs = words.counts.jobs;
-          none_live = words.none_live;
-          none_in_hand = words.none_in_hand;
-          none_outstanding = words.none_outstanding;
-          none_listed = words.none_listed;
-          none_pinned = words.none_pinned;
-          none_asked = words.none_asked;
-          sessions = words.sessions;
-          none_higher = words.none_higher;
-        },
-      )
+      let found = entries_behind s n limits L right leads.0 leads.1 leads.2.right in
+      (found.0, found.1, born_by birth (found.0 ++ L) (leads.0 ++ deeds L) found.2 found.3 leads.2)

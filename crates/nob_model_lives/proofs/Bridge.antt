@@ -16,6 +16,7 @@ use Rattle.nob_model.specs.Opening.{next_number}
 use Rattle.nob_model.specs.Lists.{AreRight}
 use Rattle.nob_model.proofs.Doing.{right_deeds}
 use Rattle.nob_model_lives.specs.Births.{Birth}
+use Rattle.nob_model_lives.specs.Alone.{AloneLaw}
 use Rattle.nob_model_lives.specs.Bridges.{CanPassCalls, CanBeBorn, BridgeLaw, Bounds, Cover, LeaveRoom, birth_behind, BoundsLaw}
 use Rattle.nob_model_lives.proofs.Leads.{Leads, leads_on}
 use Rattle.nob_model_lives.proofs.Shown.{Shown, shown_by}
@@ -68,9 +69,13 @@ module _ (s n : ℕ) (limits : Limits) (birth : Birth) (L : List Entry) (right :
       (λ E rest. leads_on (Reaches s n limits birth 0) (HasWords s n limits birth) E (reach_calls E rest.0 rest.1 can.pass_calls)
       (λ F reach. open_all s n limits birth F (λ p peer. (can.sessions p peer).1) reach))
 
--- behind every list of right entries there are entries that bring the space to every birth to which it can be brought
+-- behind every list of right entries there are entries, which need nobody else, that bring the space to every birth to which it can be brought
+pub alone_law : AloneLaw
+alone_law s n limits birth L right can = born_behind s n limits birth L right (bridge_deeds s n limits birth L right can)
+
+-- and so there are entries
 pub bridge_law : BridgeLaw
-bridge_law s n limits birth L right can = born_behind s n limits birth L right (bridge_deeds s n limits birth L right can)
+bridge_law s n limits birth L right can = let found = alone_law s n limits birth L right can in (found.0, found.2)
 
 next_below : (given heard bound : ℕ) → given ≤ bound → heard ≤ bound → max (given + 1) heard ≤ bound + 2
 next_below given heard bound one two = omega (arith, one, two)

@@ -62,7 +62,7 @@ module _ (s n : ℕ) (limits : Limits) (x : Shown) where
   close_if m D its false shut stranger e = stays (RestsUpTo s n limits x (suc m)) D (record { right = its.right; shows = its.shows; shut = up_to_next m D its.shut (λ peer. absurd (both_ways (is_peer s n (suc m)) stranger peer)) })
   close_if m D its true true peer e = stays (RestsUpTo s n limits x (suc m)) D (record { right = its.right; shows = its.shows; shut = up_to_next m D its.shut (λ again. e) })
   close_if m D its true false peer e =
-      leads_by (RestsUpTo s n limits x (suc m)) (did.Closing (suc m) Asked causes.Asked) D record {
+      leads_by (RestsUpTo s n limits x (suc m)) (did.Closing (suc m) Asked causes.Asked) D refl record {
         right = (close_right s n limits (suc m) D peer e, its.right);
         shows = closing_shows s n (suc m) D ∙ its.shows;
         shut = up_to_next m (did.Closing (suc m) Asked causes.Asked ∷ D) (λ p is low. or_right (suc m == p) (closed p D) (its.shut p is low)) (λ again. or_left (suc m == suc m) (closed (suc m) D) (eq-eqb (suc m) (suc m) refl));

@@ -83,7 +83,7 @@ module _ (s n : ℕ) (limits : Limits) (x : Shown) where
   finish_by m D [] its e low = stays Idles D (its, e)
   finish_by zero D (run ∷ runs) its e low = absurd (omega (arith, low))
   finish_by (suc m) D (run ∷ runs) its e low =
-      leads_on (RunsFew m) Idles D (leads_by (RunsFew m) (did.DropReply run.job) D (drop_first m D run runs its e (omega (arith, low))))
+      leads_on (RunsFew m) Idles D (leads_by (RunsFew m) (did.DropReply run.job) D refl (drop_first m D run runs its e (omega (arith, low))))
       (λ E more. finish_by m E (work s n E).running more.0 refl more.1)
 
   -- each job that runs ends

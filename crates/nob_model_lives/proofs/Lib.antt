@@ -10,7 +10,6 @@ pub mod Anys
 pub mod Matched
 pub mod Few
 pub mod Read
-pub mod Alive
 pub mod Releases
 pub mod Takes
 pub mod Still

@@ -155,6 +155,7 @@ module _ (s n : ℕ) (limits : Limits) (p : ℕ) where
       let up : closed p (did.Open p k ∷ D) ≡ false = ap (λ (b : Bool). cond b false (closed p D)) (eq-eqb p p refl) in
       let closes_right = close_right s n limits p (did.Open p k ∷ D) peer up in (
         did.Closing p Asked causes.Asked ∷ did.Open p k ∷ [],
+        (refl, (refl, tt)),
         (
           record {
             still = close_still s n limits p (did.Open p k ∷ D) closes_right (open_still s n limits p k D opens_right (its.shut p peer) its.still);
@@ -184,4 +185,4 @@ module _ (s n : ℕ) (limits : Limits) (p : ℕ) where
       leads_on (λ E. Waits s n limits (with_number p k x) E × AreGone s E) (ComesTo s n limits p wanted x) D
       (pass_one x D peer (omega (arith, sum, room)) its gone)
       (λ E here. let rest = pass_all more wanted (with_number p k x) E peer (omega (arith, rise, sum)) room here.0 here.1 in
-      (rest.0, (rest.1.0, passed_one k x rest.1.0 rest.1.1, rest.1.2, rest.1.3, rest.1.4)))
+      (rest.0, rest.1, (rest.2.0, passed_one k x rest.2.0 rest.2.1, rest.2.2, rest.2.3, rest.2.4)))

@@ -166,7 +166,7 @@ more_called (suc m) x = let rest = more_called m (one_call x) in let sum = rest.
 module _ (s n : ℕ) (limits : Limits) (p : ℕ) where
   call_one : (j : ℕ) (y : Shown) (D : List Deed) → is_peer s n p ≡ true → Calling s n limits p j y D → j < queue_limit → y.calls < last_number → Leads (Calling s n limits p (j + 1) (one_call y)) D
   call_one j y D peer its few room =
-      leads_by (Calling s n limits p (j + 1) (one_call y)) (idle_call p (calls_made D + 1)) D record {
+      leads_by (Calling s n limits p (j + 1) (one_call y)) (idle_call p (calls_made D + 1)) D refl record {
         right = (call_right s n limits p j y D peer its few room, its.right);
         up = its.up;
         sent = (let more = call_handed s n limits p (calls_made D + 1) D peer in let sent = its.sent in omega (arith, more, sent));
@@ -202,7 +202,7 @@ module _ (s n : ℕ) (limits : Limits) (p : ℕ) where
   pass_calls m x D peer room few last its =
       let y : Shown = with_number p (next_of x p) x in
       leads_on (Calling s n limits p 0 y) (λ E. Waits s n limits (more_calls m y) E × AreGone s E) D
-      (leads_by (Calling s n limits p 0 y) (did.Open p (next_number p (history_of s n D))) D (opened_calling x D peer room its))
+      (leads_by (Calling s n limits p 0 y) (did.Open p (next_number p (history_of s n D))) D refl (opened_calling x D peer room its))
       (λ E one. leads_on (Calling s n limits p (0 + m) (more_calls m y)) (λ F. Waits s n limits (more_calls m y) F × AreGone s F) E
       (call_all m 0 y E peer one (omega (arith, few)) last)
       (λ F two. leads_as (λ G. Waits s n limits (shown_by s n F) G × AreGone s G) (λ G. Waits s n limits (more_calls m y) G × AreGone s G) F

@@ -35,6 +35,7 @@ use Rattle.nob_model.proofs.Doing.{was_answered}
 use Rattle.nob_model.proofs.Orderly.{closing_peer}
 use Rattle.nob_model_holdings.proofs.Lists.{all_append, all_pass}
 use Rattle.nob_model_holdings.proofs.Hands.{New, outstanding_more}
+use Rattle.nob_model_holdings.proofs.Receivers.{sent_to_peers}
 
 -- a peer is at least 1
 pub peer_low : (s n p : ℕ) → is_peer s n p ≡ true → 1 ≤ p
@@ -77,19 +78,6 @@ shut_unlisted s n limits D right shut index c =
     both_ways (closed c D) (not_shut (closed c D) (is_entered s index c D) listed) (shut c (entered_peer s n limits index c D right (and_parts (not (closed c D)) (is_entered s index c D) listed).1)))
 
 -- ---- what was sent
-
-new_to_peers : (s n : ℕ) (D : List Deed) (more : List Gift) (before : List SentItem) → AllByRecursion (λ (gift : Gift). is_peer s n gift.to ≡ true) more → AllByRecursion (λ (one : SentItem). is_peer s n one.to ≡ true) (new_items D before more)
-new_to_peers s n D [] before all = tt
-new_to_peers s n D (gift ∷ more) before all = (all.0, new_to_peers s n D more (before ++ next_sent D before gift ∷ []) all.1)
-
--- all that was sent went to peers
-pub sent_to_peers : (s n : ℕ) (D : List Deed) → AllByRecursion (λ (one : SentItem). is_peer s n one.to ≡ true) (sent (history_of s n D))
-unfolding gifts
-sent_to_peers s n [] = tt
-sent_to_peers s n (deed ∷ D) =
-    subst (AllByRecursion (λ (one : SentItem). is_peer s n one.to ≡ true)) (sym (sent_more s n deed D))
-    (all_append (λ (one : SentItem). is_peer s n one.to ≡ true) (sent (history_of s n D)) (new_items D (sent (history_of s n D)) (gifts s n deed D (work s n D))) (sent_to_peers s n D)
-    (new_to_peers s n D (gifts s n deed D (work s n D)) (sent (history_of s n D)) (all_pass (λ (gift : Gift). is_peer s n gift.to) (gifts_of s n deed D (work s n D)))))
 
 none_if : {X : Type 0} (b : Bool) (x : X) (kept : List X) → b ≡ false → kept ≡ [] → cond b (x ∷ kept) kept ≡ []
 none_if true x kept not none = cc

@@ -22,7 +22,7 @@ use Rattle.nob_model.specs.Right.{right_after, right_release}
 use Rattle.nob_model.specs.Lists.{IsRightDeed, AreRightDeeds}
 use Rattle.nob_model_holdings.proofs.Holding.{OfCounted, times_some}
 use Rattle.nob_model_holdings.proofs.Holdings.{hand_held}
-use Rattle.nob_model_lives.proofs.Alive.{held_alive}
+use Rattle.nob_model_holdings.proofs.Alive.{held_alive}
 use Rattle.nob_model_lives.proofs.Leads.{Leads, stays, leads_by, leads_on, leads_as}
 
 released_by : (rep : WireRep) (gone none : Bool) → gone ≡ false → none ≡ false → deed_by (events.Release rep) (unless (refuse_if gone refusals.NoObject or_else refuse_if none refusals.NotHeld) answers.Done) ≡ Some (did.Release rep)
@@ -88,7 +88,7 @@ module _ (s n : ℕ) (limits : Limits) (P : List Deed → Type 0)
       let some = leb-true 1 (hand rep D) e in
       let less = release_one rep D in
       leads_on (Fewer rep m D) (λ E. P E × IsFreed rep D E) D
-      (leads_by (Fewer rep m D) (did.Release rep) D (kept rep D its (release_right s n limits rep D (are_right D its) counted some), refl, (λ other. release_less rep other D), omega (arith, less, low, some)))
+      (leads_by (Fewer rep m D) (did.Release rep) D refl (kept rep D its (release_right s n limits rep D (are_right D its) counted some), refl, (λ other. release_less rep other D), omega (arith, less, low, some)))
       (λ E more. leads_as (λ F. P F × IsFreed rep E F) (λ F. P F × IsFreed rep D F) E (λ F freed. (freed.0, (freed.1.0 ∙ more.1, (λ other. let one = freed.1.1 other in let two = more.2 other in omega (arith, one, two)), freed.1.2))) (further E more.0 more.3))
 
   free_one : (rep : WireRep) (m : ℕ) (D : List Deed) → is_counted rep ≡ true → P D → hand rep D ≤ m → Leads (λ E. P E × IsFreed rep D E) D

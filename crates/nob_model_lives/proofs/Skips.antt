@@ -29,7 +29,7 @@ use Rattle.nob_model.specs.Right.{most_objects, last_number, right_after, right_
 use Rattle.nob_model.specs.Lists.{IsRightDeed, AreRightDeeds}
 use Rattle.nob_model.proofs.Orderly.{released}
 use Rattle.nob_model_holdings.proofs.Holdings.{hand_held}
-use Rattle.nob_model_lives.proofs.Alive.{held_alive}
+use Rattle.nob_model_holdings.proofs.Alive.{held_alive}
 use Rattle.nob_model_lives.proofs.Leads.{Leads, stays, leads_on}
 use Rattle.nob_model_lives.proofs.Releases.{IsEmptyHand, release_right, release_one}
 use Rattle.nob_model_lives.proofs.Shown.{Shown, shown_by, release_shows, withdraw_shows}
@@ -137,6 +137,7 @@ module _ (s n : ℕ) (limits : Limits) where
       let alive : is_live s index (did.Release rep ∷ did.Export rep ∷ D) ≡ true = held_alive s n limits rep (did.Export rep ∷ D) both counted (eq-eqb s s refl) (hand_held s n limits rep (did.Export rep ∷ D) both some) in
       let withdraws_right = withdraw_right s n limits index (did.Release rep ∷ did.Export rep ∷ D) still alive in (
         did.Withdraw index ∷ did.Release rep ∷ did.Export rep ∷ [],
+        (refl, (refl, (refl, tt))),
         (
           record {
             still = withdraw_still s n limits index (did.Release rep ∷ did.Export rep ∷ D) withdraws_right still;

@@ -134,8 +134,8 @@ module _ (s n : ℕ) (limits : Limits) (x : Shown) where
       ((record { right = (right, its.0.right); shows = end_shows s n own.call D ∙ its.0.shows; shut = its.0.shut }, ap (map (λ run. run_after s n (did.TakeEnd own.call ∷ D) run)) its.1), fewer_calls m own (work s n D).calls calls e low)
 
   take_if : (m : ℕ) (own : OwnCall) (calls : List OwnCall) (D : List Deed) → Idles s n limits x D → (work s n D).calls ≡ own ∷ calls → length calls ≤ m → IsTakenRight s n limits own.call D → Leads (Lasts m) D
-  take_if m own calls D its e low (inl taken) = leads_by (Lasts m) (did.TakeReply own.call taken.0 taken.1) D (last_taken m taken.0 taken.1 own calls D its e low taken.2)
-  take_if m own calls D its e low (inr told) = leads_by (Lasts m) (did.TakeEnd own.call) D (last_told m own calls D its e low told)
+  take_if m own calls D its e low (inl taken) = leads_by (Lasts m) (did.TakeReply own.call taken.0 taken.1) D refl (last_taken m taken.0 taken.1 own calls D its e low taken.2)
+  take_if m own calls D its e low (inr told) = leads_by (Lasts m) (did.TakeEnd own.call) D refl (last_told m own calls D its e low told)
 
   take_first : (m : ℕ) (own : OwnCall) (calls : List OwnCall) (D : List Deed) → Idles s n limits x D → IsEmptyHand D → (work s n D).calls ≡ own ∷ calls → length calls ≤ m → Leads (Lasts m) D
   take_first m own calls D its empty e low =

@@ -94,7 +94,7 @@ module _ (s n : ℕ) (limits : Limits) (x : Shown) where
   withdraw_if m D its false e = stays (GoneUpTo (suc m)) D (its.0, up_to_next m D its.1 e)
   withdraw_if m D its true e =
       let right = withdraw_right s n limits (suc m) D its.0.still e in
-      leads_by (GoneUpTo (suc m)) (did.Withdraw (suc m)) D (
+      leads_by (GoneUpTo (suc m)) (did.Withdraw (suc m)) D refl (
         record { still = withdraw_still s n limits (suc m) D right its.0.still; shows = withdraw_shows s n (suc m) D ∙ its.0.shows; shut = its.0.shut },
         up_to_next m (did.Withdraw (suc m) ∷ D) (λ index low. withdraw_gone s index (suc m) D (its.1 index low)) (withdrawn_gone s (suc m) D),
       )

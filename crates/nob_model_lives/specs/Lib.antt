@@ -15,3 +15,4 @@ pub use Rattle.nob_model.specs.Lists
 pub use Rattle.nob_model.specs.Opening
 pub mod Births
 pub mod Bridges
+pub mod Alone

@@ -1,5 +1,6 @@
 //! Laws over the definitions: each is the contract of a function that does nothing.
 
+ghost use Rattle.nob_model_lives.specs.Alone.{AloneLaw};
 ghost use Rattle.nob_model_lives.specs.Births.{NewLaw, UnusedLaw, FirstLaw};
 ghost use Rattle.nob_model_lives.specs.Bridges.{BridgeLaw, BoundsLaw};
 
@@ -18,9 +19,15 @@ pub fn begin()
     ensures first { FirstLaw }
 {}
 
-/// Behind every list of right entries there are entries of events that need nobody else, and then
-/// the space is born: for each birth to which it can be brought, and so for all bounds that cover
-/// what it showed and leave room.
+/// Behind every list of right entries there are entries of the space's own that did what needs
+/// nobody else, and then the space is born: for each birth to which it can be brought.
+#[tactic(auto, using(crate::proofs::Bridge::alone_law))]
+pub fn alone()
+    ensures { AloneLaw }
+{}
+
+/// So there are entries after which the space is born, for each birth to which it can be brought, and
+/// for all bounds that cover what it showed and leave room.
 #[tactic(auto, using(crate::proofs::Bridge::bridge_law, crate::proofs::Bridge::bounds_law))]
 pub fn bridge()
     ensures births { BridgeLaw }

@@ -21,7 +21,7 @@ use Rattle.nob_model_types.specs.Deeds.{deed_of, deed_by, deed_in}
 use Rattle.nob_model.specs.Right.{IsRight}
 use Rattle.nob_model.specs.Lists.{AreRight}
 use Rattle.nob_model_holdings.proofs.Lists.{some_same}
-use Rattle.nob_model_bridges.specs.Alone.{is_unit, needs_nobody, AreOfBridge}
+use Rattle.nob_model_lives.specs.Alone.{is_unit, needs_nobody, AreOfBridge}
 use Rattle.nob_model_journal.specs.Journals.{at, frames_of, transmitted_frames}
 use Rattle.nob_model_journal.specs.Runs.{ArrivesGiven, WorldRun}
 use Rattle.nob_model_invariant.specs.Typed.{HandsTyped, AreOfTypes}

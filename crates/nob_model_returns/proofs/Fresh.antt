@@ -22,7 +22,7 @@ use Rattle.nob_model.specs.Lists.{AreRightDeeds}
 use Rattle.nob_model.proofs.Doing.{right_deeds}
 use Rattle.nob_model.proofs.Premises.{objects_in_turn}
 use Rattle.nob_model_jobs.specs.Raised.{raised_entry}
-use Rattle.nob_model_bridges.specs.Alone.{AreOfBridge}
+use Rattle.nob_model_lives.specs.Alone.{AreOfBridge}
 use Rattle.nob_model_journal.specs.Journals.{at, deeds_at}
 use Rattle.nob_model_returns.specs.Returns.{Happening, does, begins, entries, jobs_uncounted, ReturningRun}
 use Rattle.nob_model_returns.specs.Joined.{Joined}

@@ -14,7 +14,7 @@ use Rattle.nob_model_births.proofs.Reached.{reached_law}
 use Rattle.nob_model_jobs.specs.Raised.{raised_entry}
 use Rattle.nob_model_jobs.specs.Alike.{with_more_jobs}
 use Rattle.nob_model_jobs.proofs.Life.{life_law}
-use Rattle.nob_model_bridges.specs.Alone.{AreOfBridge}
+use Rattle.nob_model_lives.specs.Alone.{AreOfBridge}
 use Rattle.nob_model_journal.specs.Journals.{at, deeds_at}
 use Rattle.nob_model_returns.specs.Returns.{Happening, does, begins, entries, life, birth_of, jobs_claimed, jobs_uncounted, GoesOnFrom, IsOfLife, BeginsBehind, ReturningRun}
 use Rattle.nob_model_returns.specs.Joined.{Joined}

@@ -16,8 +16,8 @@ use Rattle.nob_model_jobs.specs.Raised.{raised_entry}
 use Rattle.nob_model_jobs.specs.Alike.{AreAlikeButJobs}
 use Rattle.nob_model_jobs.proofs.Life.{stay_law}
 use Rattle.std.proofs.lemmas.Bool.{eq-eqb}
-use Rattle.nob_model_bridges.specs.Alone.{AreOfBridge}
-use Rattle.nob_model_bridges.proofs.Bridge.{alone_law}
+use Rattle.nob_model_lives.specs.Alone.{AreOfBridge}
+use Rattle.nob_model_lives.proofs.Bridge.{alone_law}
 use Rattle.nob_model_journal.specs.Journals.{at, deeds_at, transmitted_frames}
 use Rattle.nob_model_journal.specs.Runs.{WorldRun}
 use Rattle.nob_model_invariant.specs.Typed.{AreOfTypes}

@@ -6,7 +6,7 @@ use Rattle.nob_model_types.specs.declared.entry.Entry.{Entry}
 use Rattle.nob_model_lives.specs.Births.{IsBorn}
 use Rattle.nob_model_lives.specs.Bridges.{birth_behind}
 use Rattle.nob_model_jobs.specs.Raised.{raised_entry}
-use Rattle.nob_model_bridges.specs.Alone.{AreOfBridge}
+use Rattle.nob_model_lives.specs.Alone.{AreOfBridge}
 use Rattle.nob_model_journal.specs.Journals.{at}
 use Rattle.nob_model_returns.specs.Returns.{Happening, does, begins, jobs_claimed, jobs_uncounted}
 

@@ -1,7 +1,7 @@
 pub use Rattle.nob_model_lives.specs.Births
 pub use Rattle.nob_model_lives.specs.Bridges
 pub use Rattle.nob_model_jobs.specs.Raised
-pub use Rattle.nob_model_bridges.specs.Alone
+pub use Rattle.nob_model_lives.specs.Alone
 pub use Rattle.nob_model_journal.specs.Journals
 pub use Rattle.nob_model_journal.specs.Runs
 pub use Rattle.nob_model_invariant.specs.Safe

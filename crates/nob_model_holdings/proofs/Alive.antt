@@ -1,5 +1,5 @@
 -- In every list of right deeds what a space holds of its own is live.
-use Rattle.std.proofs.Common.{◌≡◌, ℕ, ◌-◌, ◌≤◌, ◌&&◌, ◌||◌, not, Bool, true, false, cond, List, [], ◌∷◌, ◌++◌, length, map, filter, find, Option, Some, None, refl, sym, ap, subst, ◌∙◌, arith, inl, inr}
+use Rattle.std.proofs.Common.{◌≡◌, ℕ, ◌-◌, ◌≤◌, ◌&&◌, ◌||◌, not, Bool, true, false, cond, List, [], ◌∷◌, length, map, filter, find, Option, Some, None, refl, sym, ap, subst, ◌∙◌, arith, inl, inr}
 use Rattle.std.specs.Prelude.{◌==◌}
 use Rattle.std.specs.List.{AllByRecursion, list_any}
 use Rattle.std.proofs.lemmas.Bool.{eqb-true, eq-eqb, and_from, or_parts, or_right, both_ways, not-true, not-false, not_from_false, false_from_ne_true}
@@ -42,19 +42,11 @@ use Rattle.nob_model.proofs.Orderly.{holds_law}
 use Rattle.nob_model.proofs.Lending.{IsAllLent, all_lent}
 use Rattle.nob_model.proofs.Carrying.{AllOutstanding, Carries, all_carry, all_found}
 use Rattle.nob_model.proofs.Waiting.{all_weaker}
-use Rattle.nob_model_holdings.proofs.Lists.{all_append, all_split, all_both, all_unfilter, some_same}
+use Rattle.nob_model_holdings.proofs.Lists.{all_append, all_split, all_both, all_unfilter, any_push, some_same}
 use Rattle.nob_model_holdings.proofs.Hands.{New, outstanding_more, hand_weaker, hand_both}
 use Rattle.nob_model_holdings.proofs.Holding.{OfCounted, times_some}
-use Rattle.std.proofs.lemmas.List.Folds.{list_any-append}
 use Rattle.nob_model_holdings.proofs.Granted.{all_stand, hand_apart, hand_joined, copies_apart, copies_joined, either_some}
 use Rattle.nob_model_holdings.proofs.Holdings.{hand_held, lent_held, fewer, either_came, times_append}
-
-or_false : (b : Bool) → (b || false) ≡ b
-or_false true = refl
-or_false false = refl
-
-any_push : {X : Type 0} (test : X → Bool) (xs : List X) (x : X) → list_any test (xs ++ x ∷ []) ≡ (list_any test xs || test x)
-any_push test xs x = list_any-append test xs (x ∷ []) ∙ ap (λ (b : Bool). list_any test xs || b) (or_false (test x))
 
 -- a reference to an own object is to a live one
 abbrev pub IsAlive : ℕ → List Deed → WireRep → Type 0
