@@ -3,3 +3,4 @@ pub mod Acted
 pub mod Owners
 pub mod Coming
 pub mod Beginning
+pub mod Counted

@@ -3,3 +3,4 @@ pub mod Steps
 pub mod Events
 pub mod Twice
 pub mod Births
+pub mod Counts

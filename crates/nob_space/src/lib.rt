@@ -2,11 +2,13 @@
 #![tactic(auto)]
 
 mod answers;
+mod counts;
 mod events;
 mod space;
 mod twice;
 mod work;
 
+pub use counts::{Counts, PeerCounts};
 pub use nob_model::{Backlog, Tally};
 pub use nob_session::Due;
 pub use nob_space_items::{ActResult, SettledItem};

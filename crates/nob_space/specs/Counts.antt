@@ -1,0 +1,43 @@
+-- What who runs a space sees of it beside its sessions: what it has, how much of that is with a peer, and what came from one.
+use Rattle.std.specs.Prelude.{ℕ, ◌&&◌, ◌==◌, not, List, length, filter, Option, Some, None, if◌then◌else◌}
+use Rattle.nob_model_session.specs.End.{unacknowledged, waiting}
+use Rattle.nob_model_session.specs.Right.{right_front}
+use Rattle.nob_model_types.specs.Sessions.{is_peer, closed}
+use Rattle.nob_model_history.specs.declared.history.History.{History}
+use Rattle.nob_model_history.specs.declared.transit.SentItem.{SentItem}
+use Rattle.nob_model_history.specs.Ends.{calls_at}
+use Rattle.nob_model_history.specs.Transit.{bundles, surrogates}
+use Rattle.nob_model.specs.Tallies.{live_count}
+use Rattle.nob_session.specs.Stands.{Roomy}
+use Rattle.nob_space.specs.declared.counts.Counts.{Counts}
+use Rattle.nob_space.specs.declared.counts.PeerCounts.{PeerCounts}
+
+-- how much space s among n has: live objects, surrogates on open sessions, own calls that aren't taken, and messages: those that wait, ready and running jobs, ready replies
+abbrev pub counts : (s n : ℕ) → History → Counts
+counts s n h =
+    record {
+      live = live_count s h;
+      surrogates = length (surrogates s n h);
+      calls = length h.work.calls;
+      waiting = length h.work.waiting;
+      ready = length h.work.ready;
+      running = length h.work.running;
+      replies = length h.work.replies;
+    }
+
+-- the items to p that have pins here
+abbrev pub pinned_to : ℕ → History → List SentItem
+pinned_to p h = filter (λ sent_item. sent_item.to == p) (bundles h)
+
+-- how much of what a space has is with p: the items to p that have pins, those that p hasn't acknowledged, and those from p that wait to be acted on
+abbrev pub peer_counts : ℕ → History → PeerCounts
+peer_counts p h = record { pinned = length (pinned_to p h); unacknowledged = length (unacknowledged (calls_at p h)); inbox = length (waiting (calls_at p h)) }
+
+-- the item that an Act on p would act on, with its number: the front of the inbox from p, on an open session
+abbrev pub front : (s n p : ℕ) → History → Option (ℕ × List ℕ)
+front s n p h = if is_peer s n p && not (closed p h.deeds) then right_front (calls_at p h) else None
+
+-- how many payloads an end holds, where there is one: what is unacknowledged, and what waits
+abbrev pub held_by : Option Roomy → ℕ × ℕ
+held_by None = (0, 0)
+held_by (Some end) = (length end.end.unacknowledged, length end.end.waiting)
