@@ -14,7 +14,7 @@ import socket
 import struct
 import sys
 
-OWNER, SPACES, WORLD, VERSION = 1, 32, b"", 3
+OWNER, SPACES, WORLD, VERSION, WINDOW = 1, 32, b"", 4, 64
 FRAMES, PING, PONG, BYE = range(4)
 TYPES = {"uint16_t": ctypes.c_uint16, "uint32_t": ctypes.c_uint32, "uint64_t": ctypes.c_uint64, "size_t": ctypes.c_size_t, "bool": ctypes.c_bool}
 CODES = {}
@@ -41,10 +41,12 @@ class Caller:
 
     def __init__(self, library, number, port):
         self.library, self.handle, self.stamp = library, TYPES["NobHandle"](), 0
-        if status := library.nob_new(self.handle, number, SPACES, 8, 16):
+        if (version := library.nob_version()) != CODES["NOB_VERSION"]:
+            raise ValueError(f"the library has functions of version {version}, and masttomato.h those of {CODES['NOB_VERSION']}")
+        if status := library.nob_new(self.handle, number, SPACES, WINDOW, 16):
             raise ValueError(f"space {number}: status {status}")
         self.stream = socket.create_connection(("127.0.0.1", port))
-        self.stream.sendall(struct.pack(">4sHHHBB16sQ28x", b"NOBN", VERSION, number, SPACES, 0, 0, WORLD, secrets.randbits(64)))
+        self.stream.sendall(struct.pack(">4sHHHBB16sQ28x", b"NOBN", VERSION, number, SPACES, 0, WINDOW, WORLD, secrets.randbits(64)))
         _, version, space, _, refused, _, _, _ = struct.unpack(">4sHHHBB16sQ28x", self.read(64))
         if version != VERSION or refused or space != OWNER:
             raise ConnectionError(f"space {space}, whose hello has version {version}, refuses this one: {refused}")

@@ -60,6 +60,7 @@ static uint64_t call(uint64_t index, uint16_t method, const uint8_t *pickle, siz
 int main(void) {
   uint8_t pickle[9] = {0}; /* unit, at first */
   NobTold told;
+  if (nob_version() != NOB_VERSION) return 1;
   if (nob_new(&owner, 1, 2, 8, 16) != NOB_OK || nob_new(&caller, 2, 2, 8, 16) != NOB_OK) return 1;
   ASK(export, &owner);
   uint64_t counter = call(0, 1, pickle, 1); /* the caller holds 1.1 from here on */

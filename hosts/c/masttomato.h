@@ -5,6 +5,7 @@
  * pickles and frames in docs/FORMATS.md. hosts/c/README.md says what to link with.
  *
  * What a caller owes, and nothing checks:
+ * - Where nob_version isn't NOB_VERSION, this header isn't the library's: nothing else of it is called.
  * - A handle begins as NOB_EMPTY. nob_new and nob_begin_at are called on one that keeps nothing, every other
  *   function on one that keeps a space, and none but these two after nob_end. A handle is never copied.
  * - What nob_begin_at begins behind covers all that the life before it gave, heard and used (docs/LIVES.md).
@@ -59,6 +60,37 @@ typedef struct NobTally {
   uint64_t acted;   /* items of the peer that were acted on here */
 } NobTally;
 
+/* How much a space has of what its memory goes to. */
+typedef struct NobCounts {
+  uint64_t live;       /* its objects: exported and not withdrawn */
+  uint64_t surrogates; /* of others' objects, on sessions that are open here */
+  uint64_t calls;      /* its own, whose reply, or the word that there will be none, wasn't taken */
+  uint64_t waiting;    /* Calls and Replies that wait for their references */
+  uint64_t ready;      /* jobs that weren't claimed */
+  uint64_t running;    /* jobs that run */
+  uint64_t replies;    /* that are ready and weren't taken */
+} NobCounts;
+
+/* How much of that is with one peer. */
+typedef struct NobPeerCounts {
+  uint64_t pinned;         /* items to it whose references are pinned here until it settles them */
+  uint64_t unacknowledged; /* items to it that it hasn't acknowledged */
+  uint64_t inbox;          /* items from it that were accepted and not acted on */
+} NobPeerCounts;
+
+/* What stands at the front of the inbox from a peer: what a kind doesn't have is 0. */
+typedef struct NobFront {
+  uint32_t kind;       /* NOB_FRONT_NOTHING and so on */
+  uint32_t references; /* in the value of a Call or a Reply, repeats and agents' included */
+  uint32_t method;     /* of a Call; the status of a Reply */
+  uint64_t item;       /* its number in the session */
+  uint64_t number;     /* of the call, or of the item that a Settle names */
+  uint64_t index;      /* of a Call's target, or of the object that another note names */
+} NobFront;
+
+/* The version of these functions. */
+enum { NOB_VERSION = 2 };
+
 /* Statuses. With any but NOB_OK nothing has changed at the space. 21 to 28 refuse a pickle, 41 to 52 a
  * frame or a stream, each by its first fault (P1 to P8, F1 to F12 of docs/FORMATS.md). */
 enum {
@@ -82,6 +114,7 @@ enum {
   NOB_FRAMES_WAIT = 61,
   NOB_NO_FRAME = 62,
   NOB_NO_VALUE = 63,
+  NOB_OF_OTHERS = 64, /* a frame in the piece isn't from the peer to this space (nob_push) */
   NOB_INDEXES_TOO_MANY = 71, /* 71 to 75: the space can't begin so (nob_begin_at) */
   NOB_CALLS_TOO_MANY = 72,
   NOB_JOBS_TOO_MANY = 73,
@@ -117,8 +150,24 @@ enum {
 /* Outcomes of a job, for nob_finish; and, with NOB_LOST, the status of a reply. */
 enum { NOB_ANSWER = 0, NOB_FAULT = 1, NOB_NO_METHOD = 2, NOB_LOST = 3 };
 
+/* Kinds of what stands in front, by nob_front. The last one's bytes are no item's. */
+enum {
+  NOB_FRONT_NOTHING = 0,
+  NOB_FRONT_CALL = 1,
+  NOB_FRONT_REPLY = 2,
+  NOB_FRONT_SETTLE = 3,
+  NOB_FRONT_DIRTY = 4,
+  NOB_FRONT_DIRTY_OK = 5,
+  NOB_FRONT_DIRTY_NO = 6,
+  NOB_FRONT_CLEAN = 7,
+  NOB_FRONT_NO_ITEM = 8
+};
+
 /* What a Transmit would give, by nob_due. */
 enum { NOB_NO_FRAMES = 0, NOB_ACK_ALONE = 1, NOB_GIVEN_BEFORE = 2, NOB_NEW_ITEMS = 3, NOB_CLOSE_OWED = 4 };
+
+/* The version of the functions of the library, which is NOB_VERSION where this header is its own. */
+uint32_t nob_version(void);
 
 /* Makes space number `id` of `n` (up to 32), whose sessions have these limits (1 to 64, 1 to 255). */
 uint32_t nob_new(NobHandle *handle, uint16_t id, uint16_t n, uint64_t window, uint64_t retry);
@@ -147,7 +196,8 @@ uint32_t nob_close(NobHandle *handle, uint16_t peer, NobTold *told);
 uint32_t nob_open(NobHandle *handle, uint16_t peer, NobTold *told);
 
 /* A stream of frames from a peer, in pieces of any size: the frames that are whole wait, and nob_next
- * brings the first of them to the space. nob_restart begins a new stream; what waits stays. */
+ * brings the first of them to the space. NOB_OF_OTHERS where one isn't from this peer to this space: none of the
+ * piece's frames waits then, and the stream goes on behind it. nob_restart begins a new stream; what waits stays. */
 uint32_t nob_push(NobHandle *handle, uint16_t peer, const uint8_t *piece, size_t length, NobTold *told);
 uint32_t nob_next(NobHandle *handle, NobTold *told);
 uint32_t nob_restart(NobHandle *handle, uint16_t peer);
@@ -167,6 +217,14 @@ void nob_work(NobHandle *handle, NobWork *work);
 uint32_t nob_due(NobHandle *handle, uint16_t peer);
 void nob_tally(NobHandle *handle, uint16_t peer, NobTally *tally);
 uint64_t nob_live(NobHandle *handle);
+void nob_counts(NobHandle *handle, NobCounts *counts);
+/* All of it is 0 where the number is no peer's. */
+void nob_peer_counts(NobHandle *handle, uint16_t peer, NobPeerCounts *counts);
+/* What nob_act would act on. */
+void nob_front(NobHandle *handle, uint16_t peer, NobFront *front);
+
+/* Whether a handle keeps a space, as far as that can be seen: it isn't NULL, and what it has isn't. */
+static inline bool nob_keeps(const NobHandle *handle) { return handle != NULL && handle->at != NULL; }
 
 #ifdef __cplusplus
 }

@@ -3,6 +3,7 @@
 #![tactic(auto)]
 
 mod asking;
+mod counts;
 mod life;
 mod looks;
 mod streams;

@@ -14,7 +14,8 @@ ghost use Rattle.nob_host_space.specs.Streams.{Pushed, BroughtOrWants};
 use nob_host_space::{Handle, Told};
 use std::alloc::Global;
 
-/// The next piece of the stream from a peer: the frames that are whole now wait.
+/// The next piece of the stream from a peer: the frames that are whole now wait, each of them from
+/// this peer to this space. Where one is of others the status is 64, and none of them waits.
 #[unsafe(no_mangle)]
 pub extern "C" fn nob_push(
     handle: &mut Handle,
@@ -25,8 +26,8 @@ pub extern "C" fn nob_push(
 ) -> u32
     requires { IsSome handle.old.held }
     ensures pushed { IsSpace peer → Through handle.old.held handle.new.held (λ old new. old.waiting
-        ≡ [] → Pushed (is_done result) (feed_at old.feeds peer) piece.now new.waiting (feed_at
-        new.feeds peer) told.new result) }
+        ≡ [] → Pushed peer old.space.id (is_done result) (feed_at old.feeds peer) piece.now
+        new.waiting (feed_at new.feeds peer) told.new result) }
     ensures others { Through handle.old.held handle.new.held (λ old new. SameButOf peer old.feeds
         new.feeds) }
     ensures space { Through handle.old.held handle.new.held (λ old new. new.space ≡ old.space) }
@@ -71,7 +72,8 @@ pub extern "C" fn nob_restart(handle: &mut Handle, alloc: Global, peer: u16) -> 
     ensures space { Through handle.old.held handle.new.held (λ old new. new.space ≡ old.space) }
     ensures value { Through handle.old.held handle.new.held (λ old new. new.value ≡ old.value) }
     ensures answer { Through handle.old.held handle.new.held (λ old new. new.answer ≡ old.answer) }
-    ensures waiting { Through handle.old.held handle.new.held (λ old new. new.waiting ≡ old.waiting) }
+    ensures waiting { Through handle.old.held handle.new.held
+        (λ old new. new.waiting ≡ old.waiting) }
     ensures range { (IsSpace peer → ⊥) → Through handle.old.held handle.new.held (λ old new. (result
         ≡ 60) × (new ≡ old)) }
 {
@@ -104,7 +106,8 @@ pub extern "C" fn nob_value(handle: &mut Handle, alloc: Global) -> u32
 #[unsafe(no_mangle)]
 pub extern "C" fn nob_answer(handle: &mut Handle, alloc: Global, out: &mut [u8]) -> usize
     requires { IsSome handle.old.held }
-    ensures length { Through handle.old.held handle.new.held (λ old new. result ≡ length old.answer) }
+    ensures length { Through handle.old.held handle.new.held
+        (λ old new. result ≡ length old.answer) }
     ensures copied { Through handle.old.held handle.new.held (λ old new. out.new ≡ take (length
         out.old) old.answer ++ drop (length old.answer) out.old) }
     ensures same { Through handle.old.held handle.new.held (λ old new. new ≡ old) }

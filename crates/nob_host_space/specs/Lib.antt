@@ -6,3 +6,4 @@ pub mod Looks
 pub mod Bits
 pub mod Feeds
 pub mod Kept
+pub mod Counts

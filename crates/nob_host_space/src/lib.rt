@@ -7,6 +7,7 @@ mod births;
 mod bits;
 mod bringing;
 mod bytes;
+mod counts;
 mod feeds;
 mod handle;
 mod host;
@@ -18,7 +19,9 @@ mod told;
 mod waiting;
 
 pub use births::birth_of;
+pub use counts::Front;
 pub use handle::Handle;
 pub use host::Host;
 pub use looks::{Tally, Work};
+pub use nob_space::{Counts, PeerCounts};
 pub use told::Told;

@@ -26,6 +26,9 @@ pub const NONE_WAITS: u32 = 62;
 /// The status where no value is kept.
 pub const NO_VALUE: u32 = 63;
 
+/// The status of a piece with a frame of another space than the stream's peer, or for another.
+pub const OF_OTHERS: u32 = 64;
+
 // The number of what still uses an object.
 fn use_number(used: Use) -> u32
     ensures { result ≡ spec.use_number used }

@@ -5,7 +5,7 @@
 //! All of it is unsafe in one way: what a caller owes (`masttomato.h`) is owed here, too.
 
 use masttomato_sys::stand_in::Handle;
-use masttomato_sys::{Answered, Tally, Told, Work};
+use masttomato_sys::{Answered, Counts, Front, PeerCounts, Tally, Told, Work};
 use std::{ptr, slice};
 
 /// The place of a space, null where there is none.
@@ -252,4 +252,40 @@ pub unsafe extern "C" fn nob_work(handle: *mut Place, work: *mut Work) {
 pub unsafe extern "C" fn nob_tally(handle: *mut Place, peer: u16, tally: *mut Tally) {
     // SAFETY: the caller owes a place that may be written.
     unsafe { tally.write(space(handle).tally(peer)) }
+}
+
+/// See `masttomato.h`.
+///
+/// # Safety
+/// What a caller owes there.
+#[unsafe(no_mangle)]
+pub unsafe extern "C" fn nob_counts(handle: *mut Place, counts: *mut Counts) {
+    // SAFETY: the caller owes a place that may be written.
+    unsafe { counts.write(space(handle).counts()) }
+}
+
+/// See `masttomato.h`.
+///
+/// # Safety
+/// What a caller owes there.
+#[unsafe(no_mangle)]
+pub unsafe extern "C" fn nob_peer_counts(handle: *mut Place, peer: u16, counts: *mut PeerCounts) {
+    // SAFETY: the caller owes a place that may be written.
+    unsafe { counts.write(space(handle).peer_counts(peer)) }
+}
+
+/// See `masttomato.h`.
+///
+/// # Safety
+/// What a caller owes there.
+#[unsafe(no_mangle)]
+pub unsafe extern "C" fn nob_front(handle: *mut Place, peer: u16, front: *mut Front) {
+    // SAFETY: the caller owes a place that may be written.
+    unsafe { front.write(space(handle).front(peer)) }
+}
+
+/// See `masttomato.h`.
+#[unsafe(no_mangle)]
+pub extern "C" fn nob_version() -> u32 {
+    masttomato_sys::VERSION
 }

@@ -2,7 +2,7 @@
 //! here, and how much memory a node takes at them is looked at in tests/memory.rs.
 
 use masttomato::engine::{
-    Answered, Engine, HELLO, Hello, Life, Session, Settings, Ticket, Why, World,
+    Answered, Engine, HELLO, Hello, Life, Session, Settings, Ticket, WINDOW, Why, World,
 };
 use masttomato::space::{Outcome, Refusal, SpaceError, SpaceId, Value};
 use masttomato::{Node, NodeError, Peers, Remote, interface};
@@ -156,7 +156,7 @@ fn so_many_strangers_are_waited_for_and_not_for_long() {
 
 fn hello(number: u16) -> Hello {
     let (life, world) = (Life::only(33), World::default());
-    Hello { space: id(number), spaces: id(3), world, life, refused: None }
+    Hello { space: id(number), spaces: id(3), world, life, window: WINDOW, refused: None }
 }
 
 // Says these bytes in place of a hello, and hears why that is refused, if it is.
@@ -174,14 +174,16 @@ fn greet(address: SocketAddr) -> (TcpStream, Option<Why>) {
 }
 
 // Hellos of strangers to a node of space 1, which space 2 is connected to, in a world of 3.
-fn hellos_that_do_not_fit() -> [([u8; HELLO], Why, &'static str); 6] {
+fn hellos_that_do_not_fit() -> [([u8; HELLO], Why, &'static str); 7] {
     let world = Hello { world: World::named("another"), ..hello(3) }.to_bytes();
     let spaces = Hello { spaces: id(4), ..hello(3) }.to_bytes();
     let mut version = hello(3).to_bytes();
     version[5] = 2;
     let used = "its number was used by an earlier life: a process that starts again takes the next number, or keeps bounds and comes back";
     let releases =
-        "it says hello in another version: both must be of releases whose hellos have version 3";
+        "it says hello in another version: both must be of releases whose hellos have version 4";
+    let narrow = Hello { window: 8, ..hello(3) }.to_bytes();
+    let windows = "its sessions have another window: each member gives up to 64 items at once";
     [
         ([7; HELLO], Why::NoHello, "it said no hello"),
         (world, Why::OtherWorld, "it is of another world"),
@@ -189,6 +191,7 @@ fn hellos_that_do_not_fit() -> [([u8; HELLO], Why, &'static str); 6] {
         (hello(1).to_bytes(), Why::OtherNumber, "it has a number that isn't expected there"),
         (hello(2).to_bytes(), Why::NumberUsed, used),
         (version, Why::OtherVersion, releases),
+        (narrow, Why::OtherWindow, windows),
     ]
 }
 

@@ -14,7 +14,7 @@ mod things;
 
 use common::checking::{each_of, fault_of};
 use common::nobj;
-use masttomato::engine::{Files, HELLO, Hello, Life, TraceSink, World};
+use masttomato::engine::{Files, HELLO, Hello, Life, TraceSink, WINDOW, World};
 use masttomato::space::{Bounds, BoundsError, Limits, SegmentSize, Space};
 use masttomato::{CallError, Fault, Node, NodeError, Peers, Remote, Session, Value, Why};
 use std::collections::HashSet;
@@ -532,8 +532,15 @@ fn a_hello_of_another_version_is_refused_in_words() {
     let folder = Folder::new("version");
     let one = next_life(1, &bounds_of(&folder.0, 1), Peers::none(), 0);
     let life = Life { number: 0, process: 1 };
-    let hello = Hello { space: id(2), spaces: id(SPACES), world: world(), life, refused: None };
-    for (version, why) in [(2, Some(Why::OtherVersion)), (3, None)] {
+    let hello = Hello {
+        space: id(2),
+        spaces: id(SPACES),
+        world: world(),
+        life,
+        window: WINDOW,
+        refused: None,
+    };
+    for (version, why) in [(3, Some(Why::OtherVersion)), (4, None)] {
         let mut stream = TcpStream::connect(one.address().expect("it listens")).expect("a node");
         let mut bytes = hello.to_bytes();
         bytes[5] = version;

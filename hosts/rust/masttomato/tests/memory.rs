@@ -263,8 +263,10 @@ fn world_of(tell: impl Fn(Builder) -> Builder) -> World {
 
 fn large_values(watch: &Watch) {
     let (_owner, _, _member, bell) = world();
-    for _ in 0..200 {
-        assert_eq!(bell.ring(vec![7; 1 << 20]).wait_for(MINUTE), Err(CallError::TooLarge));
+    let calls: Vec<_> = (0..200).map(|_| bell.ring(vec![7; 1 << 20])).collect();
+    watch.assert_small(0);
+    for call in calls {
+        assert_eq!(call.wait_for(MINUTE), Err(CallError::TooLarge));
     }
     watch.assert_small(0);
     assert_eq!(bell.ring(vec![7; 15_000]).wait_for(MINUTE), Ok(15_000));

@@ -4,9 +4,9 @@ mod common;
 
 use common::file;
 use masttomato::space::{
-    Answer, Arrived, CallResult, Due, Event, Frame, FrameFault, Limits, Outcome, PickleFault,
-    Reason, Reference, Refusal, ReplyFate, Space, SpaceError, SpaceId, Status, StreamError, Use,
-    Value,
+    Answer, Arrived, BirthError, CallResult, Counts, Due, Event, Frame, FrameFault, FrontItem,
+    Limits, Outcome, PeerCounts, PickleFault, Reason, Reference, Refusal, ReplyFate, Space,
+    SpaceError, SpaceId, Status, StreamError, Use, Value,
 };
 
 fn id(number: u16) -> SpaceId {
@@ -127,16 +127,55 @@ fn a_stream_of_other_bytes_is_refused_until_it_is_restarted() {
     assert_eq!(two.arrive_next(), None);
 }
 
+// Frames of another space than the peer whose stream it is, and for another space: none of them waits, nothing of the space
+// has changed, and the stream goes on behind them.
 #[test]
-fn a_frame_of_others_that_waits_is_refused() {
-    let [mut one, _, mut three] = spaces();
+fn a_piece_with_a_frame_of_others_is_refused() {
+    let [mut one, mut two, mut three] = spaces::<3>();
     one.call(id(2).agent(), 0, &Value::Unit).unwrap();
-    let frames = one.transmit(id(2)).unwrap();
-    assert_eq!(three.push(id(1), frames.as_bytes()), Ok(1));
-    assert_eq!(three.arrive_next(), Some(Err(refused(Refusal::NoPeer))));
-    let frame = frames.iter().next().unwrap();
-    let entry = format!("1 arrive {frame} = S1\n");
-    assert_eq!(three.trace().unwrap().lines(), entry);
+    three.call(id(2).agent(), 0, &Value::Unit).unwrap();
+    let [ones, threes] = [&mut one, &mut three].map(|space| space.transmit(id(2)).unwrap());
+    let before = (two.counts(), two.work());
+    // The stream of space 3 has what is from space 1; that of space 1 has both; and space 3 has what is for space 2.
+    let both = [ones.as_bytes(), threes.as_bytes()].concat();
+    assert_eq!(two.push(id(3), ones.as_bytes()), Err(StreamError::OfOthers));
+    assert_eq!(two.push(id(1), &both), Err(StreamError::OfOthers));
+    assert_eq!(three.push(id(1), ones.as_bytes()), Err(StreamError::OfOthers));
+    assert_eq!((two.arrive_next(), three.arrive_next()), (None, None));
+    assert_eq!((two.counts(), two.work()), before);
+    assert_eq!(two.push(id(1), ones.as_bytes()), Ok(1));
+    assert_eq!(two.arrive_next(), Some(Ok(Arrived::Took(1))));
+    assert_eq!(two.push(id(3), threes.as_bytes()), Ok(1));
+}
+
+// What came is seen before it is acted on, and how much there is.
+#[test]
+fn what_a_space_has_is_counted_and_what_came_is_seen() {
+    let [mut one, mut two] = spaces::<2>();
+    let object = one.export().unwrap();
+    let agent = id(1).agent();
+    let value = Value::List(vec![Value::Ref(object), Value::Ref(agent), Value::Ref(object)]);
+    let call = one.call(id(2).agent(), 7, &value).unwrap();
+    let pinned = PeerCounts { pinned: 1, unacknowledged: 1, inbox: 0 };
+    assert_eq!(one.peer_counts(id(2)), pinned);
+    assert_eq!(one.counts(), Counts { live: 1, calls: 1, ..Counts::default() });
+    assert_eq!(two.front(id(1)), None);
+    for frame in one.transmit(id(2)).unwrap().iter() {
+        two.arrive(&frame).unwrap();
+    }
+    assert_eq!(two.peer_counts(id(1)), PeerCounts { inbox: 1, ..PeerCounts::default() });
+    let front = two.front(id(1)).unwrap();
+    assert_eq!(front.is, FrontItem::Call { call, target: 0, method: 7, references: 3 });
+    two.act(id(1)).unwrap();
+    assert_eq!(two.counts(), Counts { surrogates: 1, waiting: 1, ..Counts::default() });
+    exchange(&mut one, &mut two);
+    assert_eq!(two.counts(), Counts { surrogates: 1, ready: 1, ..Counts::default() });
+    assert_eq!(one.peer_counts(id(2)).pinned, 0);
+    two.claim().unwrap();
+    assert_eq!((two.counts().running, two.counts().messages()), (1, 1));
+    // A session that has closed has nothing in front.
+    two.close(id(1)).unwrap();
+    assert_eq!((two.front(id(1)), two.front(id(2))), (None, None));
 }
 
 #[test]
@@ -352,6 +391,15 @@ fn a_session_is_opened_anew_and_the_trace_says_so() {
 }
 
 // The texts are those of the proved crates.
+// A library of another version can't be linked here: so only what is said of one.
+#[test]
+fn a_library_of_another_version_is_said_to_be_that() {
+    let said = "the library nob_host that is linked has functions of version 1; this crate wants those of 2";
+    assert_eq!(SpaceError::OtherVersion(1).to_string(), said);
+    assert_eq!(BirthError::OtherVersion(1).to_string(), said);
+    assert_eq!(masttomato_sys::version(), masttomato_sys::VERSION);
+}
+
 #[test]
 fn refusals_have_the_texts_of_the_proved_crates() {
     let sources = ["nob_model_types/src/refusal", "nob_pickle/src/fault", "nob_frame/src/fault"];

@@ -1,7 +1,7 @@
 //! What a program that listens to `tracing` hears of two nodes: a span of each call and one of the method at the other
 //! end, which have the same number, and an event of each change of a session.
 
-use masttomato::engine::{HELLO, Hello, Life, World};
+use masttomato::engine::{HELLO, Hello, Life, WINDOW, World};
 use masttomato::{CallError, Node, Peers, Remote, SpaceId, interface};
 use std::collections::BTreeMap;
 use std::fmt::Debug;
@@ -180,7 +180,7 @@ fn calls_and_methods_are_spans_and_sessions_make_events() {
     let other = other.start().expect("a node");
     let mut peer = TcpStream::connect(other.address().expect("it listens")).expect("a node");
     let (life, world) = (Life::only(7), World::default());
-    let hello = Hello { space: two, spaces: two, world, life, refused: None };
+    let hello = Hello { space: two, spaces: two, world, life, window: WINDOW, refused: None };
     peer.write_all(&hello.to_bytes()).expect("a socket");
     peer.read_exact(&mut [0; HELLO]).expect("an answer");
     peer.write_all(&[0xff; 64]).expect("a socket");

@@ -128,6 +128,99 @@ pub struct Tally {
     pub acted: u64,
 }
 
+/// How much a space has of what its memory goes to.
+///
+/// ```
+/// # use masttomato_sys::{Counts, Handle};
+/// # let mut handle = Handle::new(1, 2, 8, 16)?;
+/// handle.export();
+/// assert_eq!(handle.counts(), Counts { live: 1, ..Counts::default() });
+/// # Ok::<(), u32>(())
+/// ```
+#[repr(C)]
+#[derive(Clone, Copy, Debug, Default, PartialEq, Eq)]
+pub struct Counts {
+    /// Its live objects: exported and not withdrawn.
+    pub live: u64,
+    /// Its surrogates of others' objects, on sessions that are open here.
+    pub surrogates: u64,
+    /// Its own calls whose reply, or the word that there will be none, wasn't taken.
+    pub calls: u64,
+    /// The Calls and Replies that wait for their references.
+    pub waiting: u64,
+    /// The jobs that are ready and weren't claimed.
+    pub ready: u64,
+    /// The jobs that run.
+    pub running: u64,
+    /// The replies that are ready and weren't taken.
+    pub replies: u64,
+}
+
+/// How much of what a space has is with one peer.
+///
+/// ```
+/// # use masttomato_sys::{Handle, PeerCounts};
+/// # let mut handle = Handle::new(1, 2, 8, 16)?;
+/// handle.call(2, 0, 0, &[0]);
+/// assert_eq!(handle.peer_counts(2), PeerCounts { unacknowledged: 1, ..PeerCounts::default() });
+/// # Ok::<(), u32>(())
+/// ```
+#[repr(C)]
+#[derive(Clone, Copy, Debug, Default, PartialEq, Eq)]
+pub struct PeerCounts {
+    /// The items to the peer whose references are pinned here until the peer settles them.
+    pub pinned: u64,
+    /// The items to the peer that it hasn't acknowledged.
+    pub unacknowledged: u64,
+    /// The items from the peer that were accepted and not acted on.
+    pub inbox: u64,
+}
+
+/// What stands at the front of the inbox from a peer: what an Act would act on.
+///
+/// ```
+/// # use masttomato_sys::{Front, Handle};
+/// # let handle = Handle::new(1, 2, 8, 16)?;
+/// assert_eq!(handle.front(2), Front::default());                   // nothing
+/// # Ok::<(), u32>(())
+/// ```
+#[repr(C)]
+#[derive(Clone, Copy, Debug, Default, PartialEq, Eq)]
+pub struct Front {
+    /// What it is: 0 nothing, 1 a Call, 2 a Reply, 3 Settle, 4 Dirty, 5 DirtyOk, 6 DirtyNo, 7 Clean, 8 bytes that
+    /// are no item's. What a kind doesn't have is 0.
+    pub kind: u32,
+    /// How many references the value of a Call or a Reply has, repeats and agents' included.
+    pub references: u32,
+    /// The method of a Call, the status of a Reply.
+    pub method: u32,
+    /// Its number among the items of the session.
+    pub item: u64,
+    /// The number of a Call's or a Reply's call, or of the item that a Settle names.
+    pub number: u64,
+    /// The index of a Call's target, or of the object that another note names.
+    pub index: u64,
+}
+
+/// The version of the library's functions that this crate was written for. A library of another one makes no space.
+///
+/// ```
+/// assert_eq!(masttomato_sys::VERSION, 2);
+/// ```
+pub const VERSION: u32 = 2;
+
+/// The version of the functions of the library that is linked; the stand-in's is [`VERSION`].
+///
+/// ```
+/// assert_eq!(masttomato_sys::version(), masttomato_sys::VERSION);
+/// ```
+pub fn version() -> u32 {
+    #[cfg(nob_host_library)]
+    return library::version();
+    #[cfg(not(nob_host_library))]
+    VERSION
+}
+
 /// What a call answered: a status, and what it told.
 ///
 /// ```

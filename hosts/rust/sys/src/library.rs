@@ -9,15 +9,18 @@
 //!   threads, can't make one but by unsafe code of another crate.
 //! - A pointer and a length come from one slice, which lives through the call and which nothing
 //!   writes meanwhile. The pointer of a slice is never null, and no function keeps it.
-//! - `Told`, `Work` and `Tally` are laid out as the library has them. They, and what bytes are copied to, are
+//! - `Told`, `Work`, `Tally`, `Counts`, `PeerCounts` and `Front` are laid out as the library has them. They, and what bytes are copied to, are
 //!   the caller's own, and apart from the handle and from every slice.
 //! - The library allocates by the `malloc`, `realloc` and `free` of the process, which is what it
 //!   is linked with. What it allocates it frees itself.
 
-use crate::{Answered, Tally, Told, Work};
+use crate::{Answered, Counts, Front, PeerCounts, Tally, Told, VERSION, Work};
 use std::cell::UnsafeCell;
 use std::ffi::c_void;
 use std::fmt;
+
+/// The status where the library's functions have another version than this crate was written for.
+const OTHER_VERSION: u32 = 66;
 
 /// The pointer by which the library knows a space. Null: it keeps nothing.
 #[repr(C)]
@@ -93,6 +96,11 @@ unsafe extern "C" {
     fn nob_due(handle: *mut RawHandle, peer: u16) -> u32;
     fn nob_tally(handle: *mut RawHandle, peer: u16, tally: *mut Tally);
     fn nob_live(handle: *mut RawHandle) -> u64;
+    fn nob_counts(handle: *mut RawHandle, counts: *mut Counts);
+    fn nob_peer_counts(handle: *mut RawHandle, peer: u16, counts: *mut PeerCounts);
+    fn nob_front(handle: *mut RawHandle, peer: u16, front: *mut Front);
+
+    fn nob_version() -> u32;
 }
 
 /// A space in the library. Its functions are those of the library by the same names without `nob_`, and are the
@@ -122,12 +130,22 @@ impl Drop for Handle {
     }
 }
 
+/// The version of the library's functions.
+pub(crate) fn version() -> u32 {
+    // SAFETY: it takes nothing, and reads nothing.
+    unsafe { nob_version() }
+}
+
 impl Handle {
     /// A space, or the status that says why there is none.
     ///
     /// # Errors
-    /// 60 where a number is outside its range, 14 for want of memory.
+    /// 66 where the library's functions have another version, 60 where a number is outside its range, 14 for want of
+    /// memory.
     pub fn new(id: u16, n: u16, window: u64, retry: u64) -> Result<Handle, u32> {
+        if version() != VERSION {
+            return Err(OTHER_VERSION);
+        }
         let mut raw = RawHandle { at: std::ptr::null_mut() };
         // SAFETY: the handle is null, so it keeps nothing. If the status is another than 0 it
         // keeps nothing afterwards either, and is forgotten.
@@ -141,7 +159,8 @@ impl Handle {
     /// that says why there is none.
     ///
     /// # Errors
-    /// 60 where a number is outside its range, 71 to 75 where one of the birth's is, 14 for want of memory.
+    /// 66 where the library's functions have another version, 60 where a number is outside its range, 71 to 75 where
+    /// one of the birth's is, 14 for want of memory.
     // As many numbers as the library's function takes.
     #[allow(clippy::too_many_arguments)]
     pub fn begin_at(
@@ -154,6 +173,9 @@ impl Handle {
         jobs: u64,
         sessions: &[u32],
     ) -> Result<Handle, u32> {
+        if version() != VERSION {
+            return Err(OTHER_VERSION);
+        }
         let mut raw = RawHandle { at: std::ptr::null_mut() };
         let (at, count) = (sessions.as_ptr(), sessions.len());
         // SAFETY: as of `new`; any numbers may be given, and the sessions are one slice.
@@ -334,6 +356,30 @@ impl Handle {
         // SAFETY: as of `lists`; the tally is written alone.
         unsafe { nob_tally(self.0.get(), peer, &mut tally) };
         tally
+    }
+
+    /// How much the space has.
+    pub fn counts(&self) -> Counts {
+        let mut counts = Counts::default();
+        // SAFETY: as of `lists`; the counts are written alone.
+        unsafe { nob_counts(self.0.get(), &mut counts) };
+        counts
+    }
+
+    /// How much of what the space has is with a peer.
+    pub fn peer_counts(&self, peer: u16) -> PeerCounts {
+        let mut counts = PeerCounts::default();
+        // SAFETY: as of `lists`; the counts are written alone.
+        unsafe { nob_peer_counts(self.0.get(), peer, &mut counts) };
+        counts
+    }
+
+    /// What an Act on a peer would act on.
+    pub fn front(&self, peer: u16) -> Front {
+        let mut front = Front::default();
+        // SAFETY: as of `lists`; the front is written alone.
+        unsafe { nob_front(self.0.get(), peer, &mut front) };
+        front
     }
 
     /// How many objects are live.

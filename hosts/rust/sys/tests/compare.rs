@@ -9,7 +9,7 @@ fn the_stand_in_is_compared_with_the_library() {
 
 #[cfg(nob_host_library)]
 mod compared {
-    use masttomato_sys::{Answered, Tally, Work, proved, stand_in};
+    use masttomato_sys::{Answered, Counts, Front, PeerCounts, Tally, Work, proved, stand_in};
 
     const SPACES: usize = 3;
     const SEEDS: u64 = 2_000;
@@ -175,8 +175,8 @@ mod compared {
             }
         }
 
-        // What one Transmit gave comes as a stream to whom it is for; seldom with another number in its first
-        // frame, which may be in reach of the next one or not, or with another session or version.
+        // What one Transmit gave comes as a stream to whom it is for; seldom to another space, or as another's stream, or with
+        // another number in its first frame, which may be in reach of the next one or not, or with another session or version.
         fn arrive(&mut self, mut frames: Vec<u8>) -> Answered {
             let ahead = if self.below(12) == 0 { self.below(70) } else { 0 };
             for (place, one_of) in [(1, 200), (31, 80)] {
@@ -192,14 +192,18 @@ mod compared {
                 *number = (u64::from_be_bytes(*number) + ahead).to_be_bytes();
             }
             let [_, _, _, _, _, from, _, to, ..] = frames[..] else { return Default::default() };
-            let place = usize::from(to) - 1;
-            let pair = &mut self.spaces[place];
+            let is_astray = self.below(40) == 0;
+            let [place, stream] = match is_astray {
+                true => [self.below(SPACES as u64), 1 + self.below(SPACES as u64)],
+                false => [u64::from(to) - 1, from.into()],
+            };
+            let (pair, stream) = (&mut self.spaces[place as usize], stream as u16);
             let cut = frames.len() / 2;
             for piece in [&frames[..cut], &frames[cut..]] {
-                both!(&mut *pair, push, from.into(), piece);
+                both!(&mut *pair, push, stream, piece);
                 while both!(&mut *pair, bring_next).0 != 62 {}
             }
-            both!(pair, restart, from.into());
+            both!(pair, restart, stream);
             Default::default()
         }
 
@@ -219,15 +223,23 @@ mod compared {
             let _: Work = both!(&mut *pair, work);
             both!(&mut *pair, value);
             both!(&mut *pair, live);
+            let _: Counts = both!(&mut *pair, counts);
             for peer in 0..=4 {
                 both!(&mut *pair, due, peer);
                 let _: Tally = both!(&mut *pair, tally, peer);
+                let _: PeerCounts = both!(&mut *pair, peer_counts, peer);
+                let _: Front = both!(&mut *pair, front, peer);
                 for index in 0..4 {
                     both!(&mut *pair, lists, index, peer);
                     both!(&mut *pair, reply_ready, index);
                 }
             }
         }
+    }
+
+    #[test]
+    fn the_library_is_of_the_version_that_this_crate_wants() {
+        assert_eq!(masttomato_sys::version(), masttomato_sys::VERSION);
     }
 
     #[test]

@@ -41,7 +41,7 @@ pub use link::OutBuffer;
 pub(crate) use renewing::GREET;
 pub use report::{Awaited, Doing, Report, Running, SessionReport, ThreadReport, TurnedAway};
 pub use trace::{Files, TraceSink};
-pub use wire::{Flaw, HELLO, Hello, LONGEST_BODY, Life, Why};
+pub use wire::{Flaw, HELLO, Hello, LONGEST_BODY, Life, WINDOW, Why};
 
 use crate::numbers::ByNumber;
 use crate::space::{
@@ -71,7 +71,7 @@ const LOOK: Duration = Duration::from_millis(500);
 /// So many ticks without progress close a session.
 const TICKS: u8 = 255;
 /// The limits of an engine's sessions.
-const LIMITS: Limits = Limits::new(64, TICKS).expect("these are limits");
+const LIMITS: Limits = Limits::new(WINDOW, TICKS).expect("these are limits");
 
 /// The program's own number of a call, by which it knows the answer again: see [`Engine::call`].
 ///

@@ -2,7 +2,7 @@
 
 use super::link::Link;
 use super::{Counts, Engine, Session, Why};
-use crate::space::{CallNo, Reference, SpaceId, Tally};
+use crate::space::{self, CallNo, PeerCounts, Reference, SpaceId, Tally};
 use std::fmt::{self, Write};
 use std::net::SocketAddr;
 use std::time::Duration;
@@ -18,6 +18,8 @@ use std::time::Duration;
 /// let report = node.report()?;
 /// assert_eq!((report.live, report.sessions.len(), report.oldest_job), (0, 1, None));
 /// assert!(report.to_string().contains("\nmasttomato_live_objects{space=\"1\"} 0\n"));
+/// assert!(report.to_string().contains("\nmasttomato_messages{space=\"1\",state=\"ready\"} 0\n"));
+/// assert!(report.to_string().contains("\nmasttomato_session_pinned{space=\"1\",peer=\"2\"} 0\n"));
 /// # Ok(())
 /// # }
 /// ```
@@ -28,6 +30,8 @@ pub struct Report {
     pub space: SpaceId,
     /// How many of its objects are live: exported, and not withdrawn.
     pub live: u64,
+    /// What the space itself counts: objects, surrogates, calls and messages.
+    pub of_space: space::Counts,
     /// Jobs that were claimed and aren't finished: each runs, or waits for its object.
     pub jobs: u64,
     /// How long the oldest of them is there, if there is one.
@@ -243,6 +247,8 @@ pub struct SessionReport {
     pub tally: Tally,
     /// Items that were handed to the peer and that it hasn't acknowledged.
     pub unacknowledged: u64,
+    /// What the space itself counts of it: what is pinned for it, what it hasn't acknowledged, and what came and wasn't acted on.
+    pub of_space: PeerCounts,
     /// Calls and answers that wait for room.
     pub held: u64,
 }
@@ -263,9 +269,11 @@ impl Engine {
     /// ```
     pub fn report(&self, now: Duration) -> Report {
         let since = self.jobs.values().map(|(_, since)| *since).min();
+        let of_space = self.space.counts();
         Report {
             space: self.space.id(),
-            live: self.space.live(),
+            live: of_space.live,
+            of_space,
             jobs: self.jobs.len() as u64,
             oldest_job: since.map(|since| now.saturating_sub(since)),
             sessions: self.peers.iter().filter_map(|peer| self.session_report(*peer)).collect(),
@@ -284,12 +292,9 @@ impl Engine {
 
     fn session_report(&self, peer: SpaceId) -> Option<SessionReport> {
         let (link, tally) = (self.links.get(peer)?, self.space.tally(peer)?);
-        let unacknowledged = match tally.closed {
-            // An acknowledgement is the number of the next item.
-            None => tally.sent - link.acked.saturating_sub(1).min(tally.sent),
-            Some(_) => 0,
-        };
-        Some(SessionReport { peer, session: link.session, tally, unacknowledged, held: held(link) })
+        let of_space = self.space.peer_counts(peer);
+        let (session, unacknowledged, held) = (link.session, of_space.unacknowledged, held(link));
+        Some(SessionReport { peer, session, tally, unacknowledged, of_space, held })
     }
 }
 
@@ -337,10 +342,12 @@ impl fmt::Display for Report {
             ("longest_method_seconds", "How long the longest method runs.", longest),
             ("threads_busy", "Threads that carry out a method.", busy),
             ("calls_open", "Calls that are open.", self.counts.calls_open as f64),
+            ("surrogates", "References to others' objects.", self.of_space.surrogates as f64),
         ];
         for (name, help, value) in gauges {
             put(f, self.space, (name, Kind::Gauge, help), [(String::new(), value)])?;
         }
+        self.put_messages(f)?;
         self.put_sessions(f)?;
         for (name, help, value) in self.counters() {
             put(f, self.space, (name, Kind::Counter, help), [(String::new(), value as f64)])?;
@@ -350,9 +357,18 @@ impl fmt::Display for Report {
 }
 
 impl Report {
+    fn put_messages(&self, f: &mut fmt::Formatter<'_>) -> fmt::Result {
+        let space::Counts { waiting, ready, running, replies, .. } = self.of_space;
+        let all =
+            [("waiting", waiting), ("ready", ready), ("running", running), ("replies", replies)];
+        let values = all.map(|(state, count)| (format!(",state=\"{state}\""), count as f64));
+        let help = "Calls and answers of others that came and aren't done.";
+        put(f, self.space, ("messages", Kind::Gauge, help), values)
+    }
+
     fn put_sessions(&self, f: &mut fmt::Formatter<'_>) -> fmt::Result {
         type Look = fn(&SessionReport) -> u64;
-        let gauges: [(&str, &str, Look); 7] = [
+        let gauges: [(&str, &str, Look); 9] = [
             ("session_up", "Whether there is a connection and the session is open.", |one| {
                 u64::from(one.session == Session::Open)
             }),
@@ -366,6 +382,12 @@ impl Report {
                 one.unacknowledged
             }),
             ("session_held", "Calls and answers that wait for room.", |one| one.held),
+            ("session_pinned", "Items whose references the peer hasn't settled.", |one| {
+                one.of_space.pinned
+            }),
+            ("session_inbox", "Items of the peer that wait to be acted on.", |one| {
+                one.of_space.inbox
+            }),
         ];
         for (name, help, look) in gauges {
             let values = self.sessions.iter().map(|one| {

@@ -11,7 +11,7 @@ use std::fmt;
 /// # use masttomato::SpaceId;
 /// # let [one, two] = [1, 2].map(|number| SpaceId::new(number).expect("1 to 32"));
 /// # let world = World::named("shop");
-/// # let hello = Hello { space: one, spaces: two, world, life: Life::only(7), refused: None };
+/// # let hello = Hello { space: one, spaces: two, world, life: Life::only(7), window: WINDOW, refused: None };
 /// assert_eq!(hello.to_bytes().len(), HELLO);
 /// # Ok::<(), Why>(())
 /// ```
@@ -30,9 +30,16 @@ const FRAME_HEADER: usize = 32;
 pub const LONGEST_BODY: usize = 64 * 16_416;
 
 const MARK: [u8; 4] = *b"NOBN";
-// The third, since a process may come back under its number: an end of the second would refuse it, and take its frames for
-// those of the life before.
-const VERSION: u16 = 3;
+// The fourth, since a hello says its window: one of the third has none there.
+const VERSION: u16 = 4;
+
+/// The window of the sessions of each member: so many items may be given at once.
+///
+/// ```
+/// # use masttomato::engine::*;
+/// assert_eq!(WINDOW, 64);
+/// ```
+pub const WINDOW: u8 = 64;
 
 /// Which life of a space a process has. One that keeps [bounds](crate::space::Bounds) counts them, and comes back under its
 /// number; a number without bounds has one life alone. See [`Hello`].
@@ -106,7 +113,7 @@ impl Life {
 /// # use masttomato::SpaceId;
 /// # let [one, two] = [1, 2].map(|number| SpaceId::new(number).expect("1 to 32"));
 /// # let world = World::named("shop");
-/// # let hello = Hello { space: one, spaces: two, world, life: Life::only(7), refused: None };
+/// # let hello = Hello { space: one, spaces: two, world, life: Life::only(7), window: WINDOW, refused: None };
 /// let other = Hello { space: two, world: World::named("bank"), ..hello };
 /// let why = hello.judge(&other).unwrap_err();
 /// assert_eq!((why, why.to_string()), (Why::OtherWorld, "it is of another world".into()));
@@ -130,6 +137,8 @@ pub enum Why {
     OldLife,
     /// It is a hello of another version.
     OtherVersion,
+    /// Its sessions have another window.
+    OtherWindow,
     /// It doesn't show who it is, where nodes show certificates.
     Certificate(Flaw),
 }
@@ -157,6 +166,8 @@ pub enum Flaw {
     Expired,
     /// It isn't valid yet.
     NotYet,
+    /// It stands on this node's list of those that aren't taken any more.
+    Revoked,
     /// It doesn't name the space that it is shown for, or is of another world.
     OtherName,
     /// It is no certificate of a node: an authority's own, or for other uses, or broken.
@@ -177,6 +188,7 @@ impl fmt::Display for Flaw {
             Flaw::OtherAuthority => "its certificate isn't signed by this world's authority",
             Flaw::Expired => "its certificate has expired",
             Flaw::NotYet => "its certificate isn't valid yet",
+            Flaw::Revoked => "its certificate was revoked",
             Flaw::OtherName => "its certificate doesn't name this space of this world",
             Flaw::Unfit => {
                 "its certificate is none of a node: an authority's own, or for other uses"
@@ -191,7 +203,7 @@ impl fmt::Display for Flaw {
 impl std::error::Error for Flaw {}
 
 impl Why {
-    const ALL: [Why; 8] = [
+    const ALL: [Why; 9] = [
         Why::NoHello,
         Why::OtherWorld,
         Why::OtherSpaces,
@@ -200,6 +212,7 @@ impl Why {
         Why::OldLife,
         Why::OtherVersion,
         Why::Certificate(Flaw::OtherName),
+        Why::OtherWindow,
     ];
 
     // A hello says of certificates alone that it isn't the right one.
@@ -224,7 +237,8 @@ impl fmt::Display for Why {
                 "its number was used by an earlier life: a process that starts again takes the next number, or keeps bounds and comes back"
             }
             Why::OldLife => "a later life of its number is known: an older process, or an older copy of its bounds",
-            Why::OtherVersion => "it says hello in another version: both must be of releases whose hellos have version 3",
+            Why::OtherVersion => "it says hello in another version: both must be of releases whose hellos have version 4",
+            Why::OtherWindow => "its sessions have another window: each member gives up to 64 items at once",
         })
     }
 }
@@ -234,13 +248,13 @@ impl std::error::Error for Why {}
 /// The first thing that either side of a connection says.
 ///
 /// ```
-/// use masttomato::engine::{Hello, Life, Why, World};
+/// use masttomato::engine::{Hello, Life, WINDOW, Why, World};
 /// use masttomato::SpaceId;
 ///
 /// # fn main() -> Result<(), Box<dyn std::error::Error>> {
 /// let [one, two] = [SpaceId::try_from(1)?, SpaceId::try_from(2)?];
 /// let world = World::named("shop");
-/// let own = Hello { space: one, spaces: two, world, life: Life::only(7), refused: None };
+/// let own = Hello { space: one, spaces: two, world, life: Life::only(7), window: WINDOW, refused: None };
 /// let came = Hello { space: two, life: Life::only(8), ..own }.to_bytes();
 /// let peer = Hello::from_bytes(&came)?;
 /// own.judge(&peer)?;
@@ -258,6 +272,8 @@ pub struct Hello {
     pub world: World,
     /// Which life says it.
     pub life: Life,
+    /// How many items it gives at once.
+    pub window: u8,
     /// Where it answers a hello that it refuses: why.
     pub refused: Option<Why>,
 }
@@ -270,7 +286,7 @@ impl Hello {
     /// # use masttomato::SpaceId;
     /// # let [one, two] = [1, 2].map(|number| SpaceId::new(number).expect("1 to 32"));
     /// # let world = World::named("shop");
-    /// # let hello = Hello { space: one, spaces: two, world, life: Life::only(7), refused: None };
+    /// # let hello = Hello { space: one, spaces: two, world, life: Life::only(7), window: WINDOW, refused: None };
     /// assert!(hello.to_bytes().starts_with(b"NOBN"));
     /// # Ok::<(), Why>(())
     /// ```
@@ -282,7 +298,7 @@ impl Hello {
         put(4, &VERSION.to_be_bytes());
         put(6, &self.space.get().to_be_bytes());
         put(8, &self.spaces.get().to_be_bytes());
-        put(10, &[self.refused.map_or(0, Why::number)]);
+        put(10, &[self.refused.map_or(0, Why::number), self.window]);
         put(12, &self.world.0);
         put(28, &self.life.process.to_be_bytes());
         put(36, &self.life.number.to_be_bytes());
@@ -296,7 +312,7 @@ impl Hello {
     /// # use masttomato::SpaceId;
     /// # let [one, two] = [1, 2].map(|number| SpaceId::new(number).expect("1 to 32"));
     /// # let world = World::named("shop");
-    /// # let hello = Hello { space: one, spaces: two, world, life: Life::only(7), refused: None };
+    /// # let hello = Hello { space: one, spaces: two, world, life: Life::only(7), window: WINDOW, refused: None };
     /// assert_eq!(Hello::from_bytes(&hello.to_bytes())?, hello);
     /// assert_eq!(Hello::from_bytes(&[0; HELLO]), Err(Why::NoHello));
     /// # Ok::<(), Why>(())
@@ -318,13 +334,13 @@ impl Hello {
         let (space, spaces) = (SpaceId::new(u16_at(6)), SpaceId::new(u16_at(8)));
         let (Some(space), Some(spaces)) = (space, spaces) else { return Err(Why::NoHello) };
         let is_refusal = usize::from(bytes[10]) <= Why::ALL.len();
-        if bytes[44..] != [0; 20] || !is_refusal || bytes[11] != 0 {
+        if bytes[44..] != [0; 20] || !is_refusal {
             return Err(Why::NoHello);
         }
         let world = World(*bytes[12..].first_chunk().ok_or(Why::NoHello)?);
         let refused = usize::from(bytes[10]).checked_sub(1).map(|place| Why::ALL[place]);
         let life = Life { number: u64_at(36), process: u64_at(28) };
-        Ok(Hello { space, spaces, world, life, refused })
+        Ok(Hello { space, spaces, world, life, window: bytes[11], refused })
     }
 
     /// Whether a peer's hello goes with this one.
@@ -334,7 +350,7 @@ impl Hello {
     /// # use masttomato::SpaceId;
     /// # let [one, two] = [1, 2].map(|number| SpaceId::new(number).expect("1 to 32"));
     /// # let world = World::named("shop");
-    /// # let hello = Hello { space: one, spaces: two, world, life: Life::only(7), refused: None };
+    /// # let hello = Hello { space: one, spaces: two, world, life: Life::only(7), window: WINDOW, refused: None };
     /// hello.judge(&Hello { space: two, life: Life::only(8), ..hello })?;
     /// assert_eq!(hello.judge(&hello), Err(Why::OtherNumber));
     /// # Ok::<(), Why>(())
@@ -347,6 +363,7 @@ impl Hello {
             () if peer.world != self.world => Err(Why::OtherWorld),
             () if peer.spaces != self.spaces => Err(Why::OtherSpaces),
             () if peer.space == self.space || peer.space > self.spaces => Err(Why::OtherNumber),
+            () if peer.window != self.window => Err(Why::OtherWindow),
             () => Ok(()),
         }
     }
@@ -527,16 +544,20 @@ mod tests {
             spaces: id(8),
             world: World::named("a world of tests"),
             life: Life { number: 7, process: 77 },
-            refused: Some(Why::OtherVersion),
+            window: WINDOW,
+            refused: Some(Why::OtherWindow),
         };
         let bytes = said.to_bytes();
         assert_eq!(Hello::from_bytes(&bytes), Ok(said));
-        for place in (0..6).chain([7, 8, 10, 11, 44, 63]) {
+        for place in (0..6).chain([7, 8, 10, 44, 63]) {
             let mut other = bytes;
             other[place] ^= 0x60;
             let why = if [4, 5].contains(&place) { Why::OtherVersion } else { Why::NoHello };
             assert_eq!(Hello::from_bytes(&other), Err(why), "{place}");
         }
+        let narrow = Hello { space: id(2), window: 8, refused: None, ..said };
+        let read = Hello::from_bytes(&narrow.to_bytes()).expect("a hello");
+        assert_eq!((read, said.judge(&read)), (narrow, Err(Why::OtherWindow)));
     }
 
     #[test]

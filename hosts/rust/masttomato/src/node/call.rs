@@ -285,6 +285,20 @@ impl<T> Call<T> {
         call
     }
 
+    /// One that isn't made.
+    pub(crate) fn unmade(shared: &Arc<Shared>, why: CallError) -> Call<T> {
+        let state = Arc::new(CallState::default());
+        state.complete(Err(why));
+        Call {
+            shared: shared.clone(),
+            ticket: shared.next_ticket(),
+            state,
+            is_taken: false,
+            is_cancelled: false,
+            answer: PhantomData,
+        }
+    }
+
     /// The number of the call among those of this space, as the trace has it, once it was made. A call
     /// of an own object has none.
     ///

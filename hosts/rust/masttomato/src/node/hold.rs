@@ -1,6 +1,6 @@
 //! Holds of references, and remote objects.
 
-use super::call::Call;
+use super::call::{Call, CallError};
 use super::shared::{Command, Shared};
 use crate::interface::{Description, Interface, Packed};
 use crate::pass::{Parameters, Pass};
@@ -217,6 +217,10 @@ impl<I: ?Sized> Remote<I> {
 
     fn call<A: Parameters, T: Pass>(&self, method: u16, arguments: A, is_try: bool) -> Call<T> {
         let (target, packed) = (self.hold.clone(), Packed::of(arguments));
+        // It would be refused, and be kept until then.
+        if !self.is_mine() && packed.value.is_too_long() {
+            return Call::unmade(&self.hold.shared, CallError::TooLarge);
+        }
         Call::posted(&self.hold.shared, |ticket, state| Command::Call {
             ticket,
             target,

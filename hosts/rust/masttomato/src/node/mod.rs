@@ -40,7 +40,7 @@ use self::pool::Pool;
 use self::seal::Sealer;
 use self::shared::Command;
 use crate::engine::{
-    Counts, Engine, Hello, Life, Report, Session, Settings, ThreadReport, TraceSink, World,
+    Counts, Engine, Hello, Life, Report, Session, Settings, ThreadReport, TraceSink, WINDOW, World,
 };
 use crate::interface::{Description, Interface};
 use crate::space::{BirthError, Bounds, BoundsError, SegmentSize, SpaceError, SpaceId};
@@ -861,7 +861,7 @@ impl Builder {
         let poll = Poll::new()?;
         let waker = Waker::new(poll.registry(), WAKER)?;
         let (space, world, life) = (self.space, self.world, self.life);
-        let hello = Hello { space, spaces, world, life, refused: None };
+        let hello = Hello { space, spaces, world, life, window: WINDOW, refused: None };
         let shared = Shared::new(space, waker, self.looks);
         let (listener, door) = match sealer {
             Some(sealer) => (None, Some(Door::open(sealer, listener, shared.clone())?)),

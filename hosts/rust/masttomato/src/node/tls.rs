@@ -58,6 +58,7 @@ pub struct Identity {
     chain: Vec<Certificate>,
     key: PrivateKey,
     authorities: Vec<Certificate>,
+    revoked: Vec<Certificate>,
 }
 
 // The key is nobody's business.
@@ -183,10 +184,29 @@ impl Identity {
                 let is_one = |one: &Certificate| TrustAnchor::try_from_cert_der(&one.0).is_ok();
                 let are_some = !authorities.is_empty() && authorities.iter().all(is_one);
                 are_some
-                    .then_some(Identity { chain, key, authorities })
+                    .then_some(Identity { chain, key, authorities, revoked: Vec::new() })
                     .ok_or(BadIdentity::NoAuthority)
             }
         }
+    }
+
+    /// The same, but that it takes none of these certificates any more, a text in PEM: those of members who have lost their
+    /// keys or left, or of an authority between. A certificate is known by all of its bytes. A connection that stands stays.
+    ///
+    /// ```no_run
+    /// # use masttomato::Identity;
+    /// # fn main() -> Result<(), Box<dyn std::error::Error>> {
+    /// let identity = Identity::read("space-1.pem", "space-1.key", "authority.pem")?;
+    /// let identity = identity.without(&std::fs::read_to_string("revoked.pem")?)?;
+    /// # Ok(())
+    /// # }
+    /// ```
+    ///
+    /// # Errors
+    /// Where a certificate is begun and not spelled out.
+    pub fn without(mut self, revoked: &str) -> Result<Identity, BadIdentity> {
+        self.revoked.extend(certificates(revoked)?);
+        Ok(self)
     }
 
     /// What seals the connections of a node of this space.
@@ -196,8 +216,9 @@ impl Identity {
         world: World,
     ) -> Result<Arc<dyn Sealer>, BadIdentity> {
         let world = label_of(world).ok_or(BadIdentity::World)?;
-        let Identity { chain, key, authorities } = self;
-        let all = Verifier { authorities: authorities.into(), world, lasts: None };
+        let Identity { chain, key, authorities, revoked } = self;
+        let (authorities, revoked) = (authorities.into(), revoked.into());
+        let all = Verifier { authorities, revoked, world, lasts: None };
         let first = chain.first().ok_or(BadIdentity::NoCertificate)?;
         if !all.names(first, space) {
             return Err(BadIdentity::OtherName(name_of(space.get(), &all.world)));
@@ -237,6 +258,7 @@ enum Side {
 #[derive(Clone)]
 struct Verifier {
     authorities: Arc<[Certificate]>,
+    revoked: Arc<[Certificate]>,
     world: String,
     /// The spaces that may answer where this end connects.
     lasts: Option<(SpaceId, SpaceId)>,
@@ -278,6 +300,9 @@ impl Verifier {
             }
         }
         .map_err(flaw_of_chain)?;
+        if chain.iter().any(|one| self.revoked.contains(one)) {
+            return Err(Flaw::Revoked);
+        }
         let mut all = (1..=SpaceId::MOST).filter_map(SpaceId::new);
         let may_be =
             |space: &SpaceId| self.lasts.is_none_or(|(first, last)| (first..=last).contains(space));
@@ -310,6 +335,7 @@ fn flaw_of(error: &Error) -> Flaw {
         Flaw::OtherName,
         Flaw::Unfit,
         Flaw::Missing,
+        Flaw::Revoked,
     ];
     match error {
         Error::General(text) => {

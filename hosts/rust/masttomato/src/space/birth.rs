@@ -1,6 +1,7 @@
 //! Births: the numbers that a life of a space begins behind.
 
 use super::names::SpaceId;
+use super::refusal::{OTHER_VERSION, other_version};
 use std::error::Error;
 use std::fmt;
 
@@ -98,6 +99,8 @@ pub enum BirthError {
     Earlier,
     /// Memory ran out.
     OutOfMemory,
+    /// The static library that is linked has functions of this version, and not of that which this crate was written for.
+    OtherVersion(u32),
 }
 
 impl BirthError {
@@ -110,6 +113,7 @@ impl BirthError {
             73 => Some(BirthError::Jobs),
             74 => Some(BirthError::Session),
             75 => Some(BirthError::Earlier),
+            OTHER_VERSION => Some(BirthError::OtherVersion(masttomato_sys::version())),
             _ => None,
         }
     }
@@ -118,6 +122,7 @@ impl BirthError {
 impl fmt::Display for BirthError {
     fn fmt(&self, f: &mut fmt::Formatter<'_>) -> fmt::Result {
         f.write_str(match self {
+            BirthError::OtherVersion(version) => return other_version(f, *version),
             BirthError::Indexes => "more indexes were given than there are",
             BirthError::Calls => "more calls were made than there are numbers for",
             BirthError::Jobs => "more jobs were claimed than there are numbers for",

@@ -4,10 +4,11 @@ use super::answers::{ActResult, Arrived, CallResult, ReplyFate, SettledItem, Sta
 use super::birth::{Birth, BirthError};
 use super::bounds::{self, Bounds, BoundsError, Wanted};
 use super::chain::{Chain, SegmentSize};
+use super::counts::{Counts, Front, FrontItem, PeerCounts};
 use super::event::{Answer, Event, Job, Outcome};
 use super::frame::{Frame, FrameFault, Frames, sender_of};
 use super::names::{CallNo, ItemNo, JobNo, Limits, Reason, Reference, SpaceId};
-use super::refusal::{Refusal, SpaceError};
+use super::refusal::{OTHER_VERSION, Refusal, SpaceError};
 use super::tally::Tally;
 use super::trace::Trace;
 use super::value::Value;
@@ -208,6 +209,9 @@ pub enum StreamError {
     OutOfMemory,
     /// A space that has bounds takes frames one by one, by [`Space::arrive_bytes`].
     HasBounds,
+    /// A frame in it says that it is from another space than this peer, or for another than this space. No frame of the
+    /// piece waits, and the stream goes on behind it; whoever sent it is to be hung up on.
+    OfOthers,
 }
 
 impl std::fmt::Display for StreamError {
@@ -217,6 +221,7 @@ impl std::fmt::Display for StreamError {
             StreamError::Waiting => f.write_str("frames still wait"),
             StreamError::OutOfMemory => f.write_str("out of memory"),
             StreamError::HasBounds => f.write_str("a space that has bounds takes no streams"),
+            StreamError::OfOthers => f.write_str("a frame of another space, or for another one"),
         }
     }
 }
@@ -285,7 +290,7 @@ impl Space {
     /// ```
     ///
     /// # Errors
-    /// Where memory runs out.
+    /// Where memory runs out, or the library that is linked is of another version.
     ///
     /// # Panics
     /// Where its number is above the last one.
@@ -1145,8 +1150,8 @@ impl Space {
     /// ```
     ///
     /// # Errors
-    /// Waiting where frames of the piece before still wait, Fault where the stream isn't one of frames, and
-    /// OutOfMemory, after which the same piece may be pushed again.
+    /// Waiting where frames of the piece before still wait, Fault where the stream isn't one of frames, OfOthers where
+    /// a frame isn't from this peer to this space, and OutOfMemory, after which the same piece may be pushed again.
     pub fn push(&mut self, peer: SpaceId, piece: &[u8]) -> Result<u64, StreamError> {
         if self.bounds.is_some() {
             return Err(StreamError::HasBounds);
@@ -1155,6 +1160,7 @@ impl Space {
             (0, told) => Ok(told.number),
             (14, _) => Err(StreamError::OutOfMemory),
             (61, _) => Err(StreamError::Waiting),
+            (64, _) => Err(StreamError::OfOthers),
             (status @ 41..=52, _) => Err(FrameFault::ALL[status as usize - 41].into()),
             (other, _) => unknown("status of nob_push", other),
         }
@@ -1488,6 +1494,96 @@ impl Space {
         self.handle.live()
     }
 
+    /// How much the space has: objects, surrogates, calls and messages. Constant time.
+    ///
+    /// ```
+    /// # use masttomato::space::*;
+    /// # let [one, two] = [1, 2].map(|number| SpaceId::new(number).expect("1 to 32"));
+    /// # let mut space = Space::new(one, two, Limits::default())?;
+    /// space.export()?;
+    /// space.call(two.agent(), 0, &Value::Unit)?;
+    /// assert_eq!(space.counts(), Counts { live: 1, calls: 1, ..Counts::default() });
+    /// # Ok::<(), SpaceError>(())
+    /// ```
+    pub fn counts(&self) -> Counts {
+        let counts = self.handle.counts();
+        Counts {
+            live: counts.live,
+            surrogates: counts.surrogates,
+            calls: counts.calls,
+            waiting: counts.waiting,
+            ready: counts.ready,
+            running: counts.running,
+            replies: counts.replies,
+        }
+    }
+
+    /// How much of what the space has is with a peer; nothing where the space is no peer. Constant time.
+    ///
+    /// ```
+    /// # use masttomato::space::*;
+    /// # let [one, two] = [1, 2].map(|number| SpaceId::new(number).expect("1 to 32"));
+    /// # let mut space = Space::new(one, two, Limits::default())?;
+    /// let object = space.export()?;
+    /// space.call(two.agent(), 0, &Value::Ref(object))?;
+    /// let counts = PeerCounts { pinned: 1, unacknowledged: 1, inbox: 0 };
+    /// assert_eq!((space.peer_counts(two), space.peer_counts(one)), (counts, PeerCounts::default()));
+    /// # Ok::<(), SpaceError>(())
+    /// ```
+    pub fn peer_counts(&self, peer: SpaceId) -> PeerCounts {
+        let counts = self.handle.peer_counts(peer.get());
+        PeerCounts {
+            pinned: counts.pinned,
+            unacknowledged: counts.unacknowledged,
+            inbox: counts.inbox,
+        }
+    }
+
+    /// What stands at the front of the inbox from a peer: what [`act`](Space::act) would act on. None where the space is
+    /// no peer, the session with it has closed, or nothing waits. It makes no value.
+    ///
+    /// ```
+    /// # use masttomato::space::*;
+    /// # let [one, two] = [1, 2].map(|number| SpaceId::new(number).expect("1 to 32"));
+    /// # let mut caller = Space::new(one, two, Limits::default())?;
+    /// # let mut owner = Space::new(two, two, Limits::default())?;
+    /// let call = caller.call(two.agent(), 7, &Value::Unit)?;
+    /// for frame in caller.transmit(two)?.iter() {
+    ///     owner.arrive(&frame)?;
+    /// }
+    /// let front = owner.front(one).expect("the call");
+    /// assert_eq!(front.item.get(), 1);
+    /// assert_eq!(front.is, FrontItem::Call { call, target: 0, method: 7, references: 0 });
+    /// # Ok::<(), SpaceError>(())
+    /// ```
+    pub fn front(&self, peer: SpaceId) -> Option<Front> {
+        let front = self.handle.front(peer.get());
+        let (call, references) = (CallNo::new(front.number), front.references);
+        let is = match front.kind {
+            0 => return None,
+            1 => FrontItem::Call {
+                call,
+                target: front.index,
+                method: u16::try_from(front.method)
+                    .unwrap_or_else(|_| unknown("method", front.method)),
+                references,
+            },
+            2 => {
+                let status = u8::try_from(front.method).ok().and_then(Status::from_number);
+                let status = status.unwrap_or_else(|| unknown("status of a reply", front.method));
+                FrontItem::Reply { call, status, references }
+            }
+            3 => FrontItem::Settle(ItemNo::new(front.number)),
+            4 => FrontItem::Dirty(front.index),
+            5 => FrontItem::DirtyOk(front.index),
+            6 => FrontItem::DirtyNo(front.index),
+            7 => FrontItem::Clean(front.index),
+            8 => FrontItem::NoItem,
+            other => unknown("kind of an item", other),
+        };
+        Some(Front { item: ItemNo::new(front.item), is })
+    }
+
     // Where a trace or a chain is kept, what was asked and what came of it is its next entry; but not where
     // memory was wanted. A segment that is full is sealed at once.
     fn noted<T: Clone>(
@@ -1578,6 +1674,7 @@ fn error_of(status: u32) -> SpaceError {
         12..=13 => status + 2,
         15..=16 => status + 1,
         14 => return SpaceError::OutOfMemory,
+        OTHER_VERSION => return SpaceError::OtherVersion(masttomato_sys::version()),
         _ => unknown("status", status),
     };
     SpaceError::Refused(Refusal::ALL[place as usize])

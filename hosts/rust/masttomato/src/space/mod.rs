@@ -33,6 +33,7 @@ mod answers;
 mod birth;
 mod bounds;
 mod chain;
+mod counts;
 mod event;
 mod events;
 mod frame;
@@ -50,6 +51,7 @@ pub use answers::{ActResult, Arrived, CallResult, ReplyFate, SettledItem, Status
 pub use birth::{Birth, BirthError};
 pub use bounds::{Bounds, BoundsError};
 pub use chain::{Chain, SegmentSize};
+pub use counts::{Counts, Front, FrontItem, PeerCounts};
 pub use event::{Answer, Event, Job, Outcome};
 pub use events::{ArriveError, Due, Space, StreamError, Work};
 pub use frame::{Frame, FrameFault, FrameKind, Frames, FramesIter};

@@ -3,6 +3,9 @@
 use std::error::Error;
 use std::fmt;
 
+/// The status where the library has functions of another version.
+pub(super) const OTHER_VERSION: u32 = 66;
+
 /// What still uses an object that is to be withdrawn: the first of these that holds. See [`Refusal`].
 ///
 /// ```
@@ -172,6 +175,9 @@ pub enum SpaceError {
     /// The frame is of a session more than 2^20 above that of its end, which no honest peer reaches: it is lost. Only a
     /// space that has bounds says so, since such frames would use up the numbers of its lives.
     FarSession,
+    /// The static library that is linked has functions of this version, and not of that which this crate was written for
+    /// (`masttomato_sys::VERSION`): no space is made.
+    OtherVersion(u32),
 }
 
 impl From<Refusal> for SpaceError {
@@ -187,8 +193,18 @@ impl fmt::Display for SpaceError {
             SpaceError::OutOfMemory => f.write_str("out of memory"),
             SpaceError::NotCovered => f.write_str("the bounds of the space's life can't be raised"),
             SpaceError::FarSession => f.write_str("the frame's session is too far ahead"),
+            SpaceError::OtherVersion(version) => other_version(f, *version),
         }
     }
+}
+
+// What is wrong with a library of another version.
+pub(super) fn other_version(f: &mut fmt::Formatter<'_>, version: u32) -> fmt::Result {
+    let wanted = masttomato_sys::VERSION;
+    write!(
+        f,
+        "the library nob_host that is linked has functions of version {version}; this crate wants those of {wanted}"
+    )
 }
 
 impl Error for SpaceError {

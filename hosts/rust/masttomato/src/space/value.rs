@@ -200,6 +200,12 @@ impl Value {
         found
     }
 
+    /// Whether its spelling has more bytes than a pickle may have. It looks no further than that.
+    #[cfg(feature = "node")]
+    pub(crate) fn is_too_long(&self) -> bool {
+        self.add_length(0).is_none()
+    }
+
     fn add_references(&self, found: &mut Vec<Reference>) {
         match self {
             Value::Ref(reference) if reference.is_counted() => found.push(*reference),

@@ -2,7 +2,7 @@
 
 use crate::{Numbers, SPACES};
 use masttomato::SpaceId;
-use masttomato::engine::{Hello, Life, World};
+use masttomato::engine::{Hello, Life, WINDOW, World};
 use std::io::{Read, Write};
 use std::net::{SocketAddr, TcpStream};
 use std::time::Duration;
@@ -38,5 +38,7 @@ fn hello(space: u16, numbers: &mut Numbers) -> Vec<u8> {
     let id = |number| SpaceId::new(number).expect("a space");
     let life = Life { number: numbers.below(5), process: numbers.below(1 << 60) };
     let (space, spaces) = (id(space), id(SPACES));
-    Hello { space, spaces, world: World::default(), life, refused: None }.to_bytes().to_vec()
+    Hello { space, spaces, world: World::default(), life, window: WINDOW, refused: None }
+        .to_bytes()
+        .to_vec()
 }

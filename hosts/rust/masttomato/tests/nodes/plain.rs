@@ -2,7 +2,7 @@
 //! another kind of program would be.
 
 use crate::things::{SOON, id};
-use masttomato::engine::{Answered, Engine, HELLO, Hello, Life, Settings, Ticket, World};
+use masttomato::engine::{Answered, Engine, HELLO, Hello, Life, Settings, Ticket, WINDOW, World};
 use masttomato::space::{Outcome, Reference, Value};
 use std::io::{Read, Write};
 use std::net::{SocketAddr, TcpListener, TcpStream};
@@ -17,7 +17,7 @@ pub struct Plain {
 
 pub fn hello(number: u16, spaces: u16, life: u64) -> Hello {
     let (space, spaces, life) = (id(number), id(spaces), Life::only(life));
-    Hello { space, spaces, world: World::default(), life, refused: None }
+    Hello { space, spaces, world: World::default(), life, window: WINDOW, refused: None }
 }
 
 pub fn read_hello(stream: &mut TcpStream) -> Hello {

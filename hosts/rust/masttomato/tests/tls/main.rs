@@ -6,7 +6,7 @@
 mod proxy;
 mod strangers;
 
-use masttomato::engine::{Flaw, Hello, Life, World};
+use masttomato::engine::{Flaw, Hello, Life, WINDOW, World};
 use masttomato::{
     BadIdentity, Builder, CallError, Context, Identity, Node, NodeError, Peers, Remote, Session,
     SpaceId, Why, interface,
@@ -80,6 +80,7 @@ fn certificates() -> Option<&'static Path> {
         make(&beside(&all, "ahead"), "shop", &["2"], &ahead);
         let wild = [("NAMES", "DNS:*.shop.masttomato")];
         make(&beside(&all, "wild"), "shop", &["2"], &wild);
+        make(&beside(&all, "gone"), "shop", &["1", "2"], &[]);
         make(&all.join("other"), "shop", &["1", "2"], &[]);
         let alone = Command::new("openssl")
             .args([
@@ -108,6 +109,16 @@ fn identity(folder: &Path, name: &str) -> Identity {
     Identity::read(file("pem"), file("key"), folder.join("authority.pem")).expect("an identity")
 }
 
+// The certificates that no member takes any more.
+fn revoked(all: &Path) -> String {
+    let read = |name: &str| std::fs::read_to_string(all.join("gone").join(name)).expect("a file");
+    [read("space-1.pem"), read("space-2.pem")].concat()
+}
+
+fn identity_of_member(all: &Path, name: &str) -> Identity {
+    identity(all, name).without(&revoked(all)).expect("certificates")
+}
+
 // ---- nodes ------------------------------------------------------------------------------------------
 
 fn builder(number: u16, peers: Peers) -> Builder {
@@ -116,8 +127,8 @@ fn builder(number: u16, peers: Peers) -> Builder {
 
 // The first space, with a bell, and where it listens.
 fn owner(all: &Path) -> (Node, SocketAddr) {
-    let owner = builder(1, Peers::none()).tls(identity(all, "space-1")).listen("127.0.0.1:0");
-    let owner = owner.start().expect("a node");
+    let owner = builder(1, Peers::none()).tls(identity_of_member(all, "space-1"));
+    let owner = owner.listen("127.0.0.1:0").start().expect("a node");
     owner.bind("bell", &owner.export::<dyn Bell>(Box::new(Brass)).expect("room")).expect("a name");
     let address = owner.address().expect("it listens");
     (owner, address)
@@ -125,7 +136,7 @@ fn owner(all: &Path) -> (Node, SocketAddr) {
 
 fn member(all: &Path, number: u16, name: &str, owner: SocketAddr) -> Node {
     let peers = Peers::none().with(id(1), owner);
-    builder(number, peers).tls(identity(all, name)).start().expect("a node")
+    builder(number, peers).tls(identity_of_member(all, name)).start().expect("a node")
 }
 
 fn bell(node: &Node) -> Remote<dyn Bell> {
@@ -146,7 +157,7 @@ fn eventually(what: &str, mut holds: impl FnMut() -> bool) {
 
 fn hello(number: u16, world: &str, process: u64) -> Hello {
     let (space, spaces, life) = (id(number), id(LAST), Life::only(process));
-    Hello { space, spaces, world: World::named(world), life, refused: None }
+    Hello { space, spaces, world: World::named(world), life, window: WINDOW, refused: None }
 }
 
 // ---- members ----------------------------------------------------------------------------------------
@@ -300,13 +311,13 @@ fn a_certificate_may_name_a_range() {
 /// Who comes, what is shown, what is said, and why that isn't enough.
 type Stranger = (&'static str, Option<Shown>, Hello, Why, &'static str);
 
-// The first nine don't come as far as a hello, which would be answered. README.md has the sentences.
+// The first ten don't come as far as a hello, which would be answered. README.md has the sentences.
 fn strangers_of(all: &Path) -> Vec<Stranger> {
     let of = |folder: &str, name: &str| Some(shown(&all.join(folder), name));
     let mut long: Shown = shown(all, "space-3");
     long.chain.extend(std::iter::repeat_n(shown(all, "authority").chain.remove(0), 3));
     let three = hello(3, "shop", 33);
-    use Flaw::{Expired, Missing, NotYet, OtherAuthority, OtherName, Unfit};
+    use Flaw::{Expired, Missing, NotYet, OtherAuthority, OtherName, Revoked, Unfit};
     let authority = "its certificate isn't signed by this world's authority";
     let name = "its certificate doesn't name this space of this world";
     let unfit = "its certificate is none of a node: an authority's own, or for other uses";
@@ -319,6 +330,7 @@ fn strangers_of(all: &Path) -> Vec<Stranger> {
         shows("another authority", of("other", "space-2"), OtherAuthority, authority),
         shows("expired", of("past", "space-2"), Expired, "its certificate has expired"),
         shows("not valid yet", of("ahead", "space-2"), NotYet, "its certificate isn't valid yet"),
+        shows("revoked", of("gone", "space-2"), Revoked, "its certificate was revoked"),
         shows("another world", of("bank", "space-2"), OtherName, name),
         shows("all names at once", of("wild", "space-2"), OtherName, name),
         shows("the authority itself", of("", "authority"), Unfit, unfit),
@@ -350,7 +362,7 @@ fn who_is_no_member_is_turned_away_with_a_sentence() {
             let answer = Hello::from_bytes(answer[..].try_into().expect("a hello")).expect("one");
             assert_eq!(answer.refused, Some(wanted), "{what}");
         }
-        let is_answered = place >= 9;
+        let is_answered = place >= 10;
         assert_eq!(answer.is_ok(), is_answered, "{what}: {answer:?}");
         let is_told = || {
             let report = owner.report().expect("it runs");
@@ -400,6 +412,7 @@ fn who_poses_as_another_is_not_talked_to() {
         ("another authority", of("other", "space-1"), Flaw::OtherAuthority),
         ("signed by itself", of("", "alone"), Flaw::OtherAuthority),
         ("expired", of("past", "space-2"), Flaw::Expired),
+        ("revoked", of("gone", "space-1"), Flaw::Revoked),
     ];
     let posing = cases.iter().map(|(what, posing, flaw)| (*what, posing.address, *flaw));
     let plain = ("no TLS", plain.address().expect("it listens"), Flaw::NoTls);

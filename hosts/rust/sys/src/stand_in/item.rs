@@ -1,6 +1,7 @@
 //! Items: what a frame of data carries.
 
 use super::pickle::Pickle;
+use crate::Front;
 
 const LAST_CALL: u64 = 1 << 48;
 const LAST_ITEM: u64 = 1 << 40;
@@ -34,6 +35,26 @@ impl Item {
             Item::DirtyOk(index) => note(5, index),
             Item::DirtyNo(index) => note(6, index),
             Item::Clean(index) => note(7, index),
+        }
+    }
+
+    /// What is seen of it where it stands in front, but for its number.
+    pub(super) fn seen(&self) -> Front {
+        let note = |kind, number, index| Front { kind, number, index, ..Front::default() };
+        match self {
+            Item::Call { call, target, method, value } => {
+                let (method, references) = ((*method).into(), value.count);
+                Front { method, references, ..note(1, *call, *target) }
+            }
+            Item::Reply { call, status, value } => {
+                let (method, references) = ((*status).into(), value.count);
+                Front { method, references, ..note(2, *call, 0) }
+            }
+            Item::Settle(item) => note(3, *item, 0),
+            Item::Dirty(index) => note(4, 0, *index),
+            Item::DirtyOk(index) => note(5, 0, *index),
+            Item::DirtyNo(index) => note(6, 0, *index),
+            Item::Clean(index) => note(7, 0, *index),
         }
     }
 

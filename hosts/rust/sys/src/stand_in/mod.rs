@@ -9,7 +9,7 @@ mod session;
 mod space;
 mod table;
 
-use crate::{Answered, Tally, Told, Work};
+use crate::{Answered, Counts, Front, PeerCounts, Tally, Told, Work};
 use frame::Feed;
 use pickle::Pickle;
 use space::{Birth, Space, refusal};
@@ -24,6 +24,7 @@ const OUT_OF_RANGE: u32 = 60;
 const STILL_WAITING: u32 = 61;
 const NONE_WAITS: u32 = 62;
 const NO_VALUE: u32 = 63;
+const OF_OTHERS: u32 = 64;
 /// What is added to the number of a pickle's or a frame's fault.
 const PICKLE: u32 = 20;
 const FRAME: u32 = 40;
@@ -457,7 +458,7 @@ impl Handle {
         in_range(peer, || self.space.open(peer))
     }
 
-    /// The next piece of a stream of frames.
+    /// The next piece of a stream of frames, each from the peer to this space: 64 where one is of others.
     ///
     /// ```
     /// # use masttomato_sys::stand_in::Handle;
@@ -474,6 +475,13 @@ impl Handle {
             memory()?;
             let frames =
                 self.feeds[usize::from(peer)].push(piece).map_err(|fault| FRAME + fault)?;
+            let is_between = |bytes: &Vec<u8>| {
+                frame::whole(bytes)
+                    .is_ok_and(|frame| (frame.from, frame.to) == (peer, self.space.id()))
+            };
+            if !frames.iter().all(is_between) {
+                return Err(OF_OTHERS);
+            }
             self.waiting = frames.into();
             Ok(Answer::Number(16, self.waiting.len() as u64))
         })
@@ -631,6 +639,54 @@ impl Handle {
     /// ```
     pub fn tally(&self, peer: u16) -> Tally {
         if self.space.is_peer(peer) { self.space.session(peer).tally() } else { Tally::default() }
+    }
+
+    /// How much the space has.
+    ///
+    /// ```
+    /// # use masttomato_sys::{Counts, stand_in::Handle};
+    /// # let mut handle = Handle::new(1, 2, 8, 16)?;
+    /// handle.export();
+    /// handle.call(2, 0, 0, &[0]);
+    /// assert_eq!(handle.counts(), Counts { live: 1, calls: 1, ..Counts::default() });
+    /// # Ok::<(), u32>(())
+    /// ```
+    pub fn counts(&self) -> Counts {
+        self.space.counts()
+    }
+
+    /// How much of what the space has is with a peer.
+    ///
+    /// ```
+    /// # use masttomato_sys::{PeerCounts, stand_in::Handle};
+    /// # let mut handle = Handle::new(1, 2, 8, 16)?;
+    /// handle.export();
+    /// handle.call(2, 0, 0, &[4, 0, 1, 0, 0, 0, 0, 0, 0, 0, 1]);        // with a reference to 1.1
+    /// let counts = PeerCounts { pinned: 1, unacknowledged: 1, inbox: 0 };
+    /// assert_eq!((handle.peer_counts(2), handle.peer_counts(1)), (counts, PeerCounts::default()));
+    /// # Ok::<(), u32>(())
+    /// ```
+    pub fn peer_counts(&self, peer: u16) -> PeerCounts {
+        let is_peer = self.space.is_peer(peer);
+        if is_peer { self.space.peer_counts(peer) } else { PeerCounts::default() }
+    }
+
+    /// What an Act on a peer would act on.
+    ///
+    /// ```
+    /// # use masttomato_sys::{Front, stand_in::Handle};
+    /// # let (mut one, mut two) = (Handle::new(1, 2, 8, 16)?, Handle::new(2, 2, 8, 16)?);
+    /// one.call(2, 0, 3, &[0]);
+    /// one.transmit(2);
+    /// let mut frame = [0; 100];
+    /// let length = one.answer(&mut frame);
+    /// assert_eq!(two.front(1), Front::default());
+    /// two.arrive(&frame[..length]);
+    /// assert_eq!(two.front(1), Front { kind: 1, method: 3, item: 1, number: 1, ..Front::default() });
+    /// # Ok::<(), u32>(())
+    /// ```
+    pub fn front(&self, peer: u16) -> Front {
+        if self.space.is_peer(peer) { self.space.front(peer) } else { Front::default() }
     }
 
     /// How many objects are live.

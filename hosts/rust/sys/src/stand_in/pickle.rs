@@ -11,16 +11,18 @@ const MOST_LEVELS: usize = 16;
 /// The pickle of unit.
 pub(super) const UNIT: &[u8] = &[0];
 
-/// A value's bytes with its counted references, in reading order, repeats included.
+/// A value's bytes with its counted references, in reading order, repeats included, and how many
+/// references it has in all: agents' aren't counted.
 #[derive(Clone, Debug)]
 pub(super) struct Pickle {
     pub(super) bytes: Vec<u8>,
     pub(super) references: Vec<Reference>,
+    pub(super) count: u32,
 }
 
 impl Pickle {
     pub(super) fn unit() -> Pickle {
-        Pickle { bytes: UNIT.to_vec(), references: Vec::new() }
+        Pickle { bytes: UNIT.to_vec(), references: Vec::new(), count: 0 }
     }
 
     /// The pickle that all of these bytes are, or the number of its first fault, 1 to 8.
@@ -33,7 +35,8 @@ impl Pickle {
         if !reader.left.is_empty() {
             return Err(6);
         }
-        Ok(Pickle { bytes: bytes.to_vec(), references: reader.counted })
+        let count = reader.count as u32;
+        Ok(Pickle { bytes: bytes.to_vec(), references: reader.counted, count })
     }
 }
 

@@ -128,6 +128,11 @@ impl Session {
         self.acted += u64::from(self.inbox.pop_front().is_some());
     }
 
+    /// How many items stand unacknowledged, and how many wait to be acted on.
+    pub(super) fn held(&self) -> (u64, u64) {
+        (self.out.len() as u64, self.inbox.len() as u64)
+    }
+
     /// What went each way, and how it ended.
     pub(super) fn tally(&self) -> Tally {
         let closed = self.closed.map_or(0, u32::from);

@@ -6,6 +6,7 @@ use super::pickle::Pickle;
 use super::session::{Arrival, LAST_ITEM, Session};
 use super::table::{LAST_INDEX, MOST_LIVE, Standing, Table};
 use super::{Answer, Reference};
+use crate::{Counts, Front, PeerCounts};
 use std::collections::{BTreeMap, BTreeSet, HashMap, VecDeque};
 
 const MOST_CALLS: usize = 4_096;
@@ -146,6 +147,10 @@ impl Space {
             claimed: birth.jobs,
             ready_replies: 0,
         }
+    }
+
+    pub(super) fn id(&self) -> u16 {
+        self.here
     }
 
     pub(super) fn peers(&self) -> impl Iterator<Item = u16> + use<> {
@@ -690,6 +695,32 @@ impl Space {
     /// How many objects are live.
     pub(super) fn live(&self) -> u64 {
         self.table.live()
+    }
+
+    pub(super) fn counts(&self) -> Counts {
+        Counts {
+            live: self.table.live(),
+            surrogates: self.table.surrogates(),
+            calls: self.calls.len() as u64,
+            waiting: self.messages.len() as u64,
+            ready: self.ready.len() as u64,
+            running: self.running.len() as u64,
+            replies: self.ready_replies as u64,
+        }
+    }
+
+    pub(super) fn peer_counts(&self, peer: u16) -> PeerCounts {
+        let pinned = self.pins.keys().filter(|(to, _)| *to == peer).count() as u64;
+        let (unacknowledged, inbox) = self.session(peer).held();
+        PeerCounts { pinned, unacknowledged, inbox }
+    }
+
+    pub(super) fn front(&self, peer: u16) -> Front {
+        let front = self.session(peer).front().filter(|_| self.is_open(peer));
+        front.map_or_else(Front::default, |(item, bytes)| match Item::read(bytes) {
+            Some(read) => Front { item, ..read.seen() },
+            None => Front { kind: 8, item, ..Front::default() },
+        })
     }
 
     pub(super) fn reply_ready(&self, call: u64) -> bool {

@@ -85,6 +85,10 @@ impl Table {
         self.live.len() as u64
     }
 
+    pub(super) fn surrogates(&self) -> u64 {
+        self.surrogates as u64
+    }
+
     pub(super) fn was_exported(&self, index: u64) -> bool {
         (1..=self.exported).contains(&index)
     }

@@ -1,0 +1,75 @@
+//! What a space has, and what came from a peer.
+
+ghost use Rattle.std.specs.Prelude.{◌≡◌, List, true, false, IsSome};
+ghost use Rattle.nob_ids.specs.Names.{IsSpace};
+ghost use Rattle.nob_model_types.specs.declared.entry.Entry.{Entry};
+ghost use Rattle.nob_model_types.specs.Sessions.{is_peer};
+ghost use Rattle.nob_space.specs.Counts as words;
+ghost use Rattle.nob_space.specs.Spaces.{StandsFor};
+ghost use Rattle.nob_host_space.specs.Counts as counts;
+ghost use Rattle.nob_host_space.specs.Kept.{Through};
+ghost use Rattle.nob_host_space.specs.Looks.{past_of};
+
+use nob_host_space::{Counts, Front, Handle, PeerCounts};
+use std::alloc::Global;
+
+/// The version of these functions: it rises whenever a function, a struct or a status changes. A
+/// program that was written for another one makes no space.
+#[unsafe(no_mangle)]
+pub extern "C" fn nob_version() -> u32
+    ensures { result ≡ 2 }
+{
+    2
+}
+
+/// How much the space has: objects, surrogates, calls and messages.
+#[unsafe(no_mangle)]
+pub extern "C" fn nob_counts(handle: &mut Handle, alloc: Global, counted: &mut Counts)
+    requires { IsSome handle.old.held }
+    ensures counts { Through handle.old.held handle.new.held (λ old new. (L : List Entry)
+        → StandsFor old.space L → counted.new ≡ words.counts old.space.id old.space.n
+        (past_of old.space L)) }
+    ensures same { Through handle.old.held handle.new.held (λ old new. new ≡ old) }
+{
+    let host = handle.take(alloc);
+    *counted = host.counts();
+    handle.put(host);
+}
+
+/// How much of what the space has is with a peer: all is 0 where the number is no peer's.
+#[unsafe(no_mangle)]
+pub extern "C" fn nob_peer_counts(
+    handle: &mut Handle,
+    alloc: Global,
+    peer: u16,
+    counted: &mut PeerCounts,
+)
+    requires { IsSome handle.old.held }
+    ensures counts { IsSpace peer → Through handle.old.held handle.new.held (λ old new. is_peer
+        old.space.id old.space.n peer ≡ true → (L : List Entry) → StandsFor old.space L
+        → counted.new ≡ words.peer_counts peer (past_of old.space L)) }
+    ensures none { Through handle.old.held handle.new.held (λ old new. is_peer old.space.id
+        old.space.n peer ≡ false → counted.new ≡ counts.no_counts) }
+    ensures range { (IsSpace peer → ⊥) → counted.new ≡ counts.no_counts }
+    ensures same { Through handle.old.held handle.new.held (λ old new. new ≡ old) }
+{
+    let host = handle.take(alloc);
+    *counted = host.peer_counts(peer);
+    handle.put(host);
+}
+
+/// What an Act on a peer would act on: nothing where the number is no peer's, the session with it
+/// has closed here, or nothing waits.
+#[unsafe(no_mangle)]
+pub extern "C" fn nob_front(handle: &mut Handle, alloc: Global, peer: u16, front: &mut Front)
+    requires { IsSome handle.old.held }
+    ensures front { IsSpace peer → Through handle.old.held handle.new.held (λ old new.
+        (L : List Entry) → StandsFor old.space L → front.new ≡ counts.shown
+        (words.front old.space.id old.space.n peer (past_of old.space L))) }
+    ensures range { (IsSpace peer → ⊥) → front.new ≡ counts.no_front }
+    ensures same { Through handle.old.held handle.new.held (λ old new. new ≡ old) }
+{
+    let host = handle.take(alloc);
+    *front = host.front(peer);
+    handle.put(host);
+}
