@@ -1,5 +1,6 @@
 //! A node's objects, names and open calls, on its own thread, over an engine.
 
+use super::ahead::Reckoning;
 use super::call::{CallError, CallState, Completed, Fault};
 use super::cancel::Cancel;
 use super::hold::Hold;
@@ -38,6 +39,9 @@ const OTHER_INTERFACE: i64 = 5;
 /// So many names there are at most, and so many bytes in one.
 const MOST_NAMES: usize = 1_024;
 const LONGEST_NAME: usize = 255;
+/// So many objects that were withdrawn are dropped at once, or those of so long.
+const DROPS: usize = 64;
+const DROP_WAITS: Duration = Duration::from_millis(1);
 
 /// A call that an object is to carry out.
 struct Work {
@@ -239,6 +243,7 @@ pub(crate) struct Core {
     steps: VecDeque<Step>,
     pool: Option<Arc<Pool>>,
     spawner: Option<Arc<dyn Spawn>>,
+    ahead: Reckoning,
     watchers: Vec<mpsc::Sender<(SpaceId, Session)>>,
     running: usize,
     pub(crate) silent: Vec<SpaceId>,
@@ -248,6 +253,7 @@ pub(crate) struct Core {
     pub(crate) stops_at: Option<Instant>,
     wakers: Vec<Waker>,
     withdrawn: Vec<Box<dyn Exported>>,
+    withdrawn_since: Duration,
 }
 
 impl Core {
@@ -269,6 +275,7 @@ impl Core {
             steps: VecDeque::new(),
             pool,
             spawner,
+            ahead: Reckoning::default(),
             watchers: Vec::new(),
             running: 0,
             silent: Vec::new(),
@@ -277,6 +284,7 @@ impl Core {
             stops_at: None,
             wakers: Vec::new(),
             withdrawn: Vec::new(),
+            withdrawn_since: Duration::ZERO,
         }
     }
 
@@ -295,6 +303,10 @@ impl Core {
                 self.lookup(ticket, peer, name, wanted, state);
             }
             Command::Cast { ticket, hold, wanted, state } => self.cast(ticket, hold, wanted, state),
+            Command::Place { reference, object, run } => {
+                self.ahead.is_placed();
+                self.place(reference, object, run);
+            }
             Command::Abandon(ticket) => {
                 self.calls.remove(&ticket);
                 self.engine.abandon(ticket);
@@ -320,12 +332,34 @@ impl Core {
             SpaceError::Refused(Refusal::Limit) => NodeError::Full,
             error => NodeError::Space(error),
         })?;
+        self.place(reference, object, run);
+        Ok(reference)
+    }
+
+    /// The same for another thread, which waits for it: where that is often so, the next ones won't.
+    pub(crate) fn export_for(
+        &mut self,
+        object: Box<dyn Exported>,
+        run: Run,
+    ) -> Result<Reference, NodeError> {
+        self.ahead.was_asked();
+        self.export(object, run)
+    }
+
+    // An own object is there.
+    fn place(&mut self, reference: Reference, object: Box<dyn Exported>, run: Run) {
         let description = object.describe();
         let place = Place::Here(object);
         let (running, line) = (None, VecDeque::new());
         let object = Object { place, running, run, line, description };
         self.objects.insert(reference.index, object);
-        Ok(reference)
+    }
+
+    /// Exports ahead, where objects are often exported from other threads.
+    pub(crate) fn export_ahead(&mut self) {
+        if self.stops_at.is_none() {
+            self.ahead.fill(self.shared.ahead(), || self.engine.export().ok());
+        }
     }
 
     pub(crate) fn bind(&mut self, name: &str, hold: Arc<Hold>) -> Result<(), NodeError> {
@@ -354,6 +388,7 @@ impl Core {
         let longest = all.min_by_key(|(_, since)| *since);
         report.longest = longest.map(|(running, since)| (running, since.elapsed()));
         report.threads = self.shared.desks().report();
+        report.live -= self.ahead.ready();
         report
     }
 
@@ -399,6 +434,9 @@ impl Core {
         match is_try {
             true => self.engine.try_call(ticket, target.reference(), method, packed.value),
             false => self.engine.call(ticket, target.reference(), method, packed.value),
+        }
+        for reference in dropped(packed.holds) {
+            self.engine.release(reference);
         }
         if let Some(number) = self.engine.number(ticket) {
             state.set_number(number);
@@ -541,6 +579,9 @@ impl Core {
         for index in turn.withdrawn {
             let object = self.objects.remove(&index).map(|object| object.place);
             if let Some(Place::Here(object)) = object {
+                if self.withdrawn.is_empty() {
+                    self.withdrawn_since = now;
+                }
                 self.withdrawn.push(object);
             }
         }
@@ -752,8 +793,7 @@ impl Core {
             Served::Panicked => (fault(PANICKED), Vec::new()),
             Served::Cancelled => (fault(CANCELLED), Vec::new()),
         };
-        // A hold that is dropped here is given back by a later command, so after the Finish.
-        drop(holds);
+        let dropped = dropped(holds);
         for loan in loans {
             let is_kept = Arc::strong_count(&loan) > 1;
             let is_held = is_kept && self.engine.hold(loan.reference()).is_ok();
@@ -763,18 +803,25 @@ impl Core {
             }
         }
         self.engine.finish(job, outcome);
+        dropped.into_iter().for_each(|reference| self.engine.release(reference));
     }
 
     /// What is to be done once nothing of the node is borrowed: who is woken, and objects to be dropped.
     pub(crate) fn take_leftovers(&mut self) -> (Vec<Waker>, Vec<Box<dyn Exported>>) {
-        let withdrawn = std::mem::take(&mut self.withdrawn);
         let wakers = std::mem::take(&mut self.wakers);
         match &self.pool {
-            Some(pool) => {
-                withdrawn.into_iter().for_each(|object| pool.drop_object(object));
-                (wakers, Vec::new())
-            }
-            None => (wakers, withdrawn),
+            Some(_) => (wakers, Vec::new()),
+            None => (wakers, std::mem::take(&mut self.withdrawn)),
+        }
+    }
+
+    /// Workers drop the objects that were withdrawn: some at once, so that a worker is woken less often; all of them
+    /// where the node's thread is about to sleep.
+    pub(crate) fn drop_withdrawn(&mut self, now: Duration, sleeps: bool) {
+        let Some(pool) = &self.pool else { return };
+        let is_late = now.saturating_sub(self.withdrawn_since) >= DROP_WAITS;
+        if !self.withdrawn.is_empty() && (sleeps || is_late || self.withdrawn.len() >= DROPS) {
+            pool.drop_objects(self.withdrawn.drain(..));
         }
     }
 
@@ -806,6 +853,13 @@ impl Core {
             }
         }
     }
+}
+
+// Drops holds. Of those that nobody else has it answers the references that were in the hand, which are to be given back
+// right away: so that no command of their drop does.
+fn dropped(holds: Vec<Arc<Hold>>) -> Vec<Reference> {
+    let is_last = |hold: &Arc<Hold>| Arc::strong_count(hold) == 1 && hold.lose();
+    holds.into_iter().filter(is_last).map(|hold| hold.reference()).collect()
 }
 
 fn status_of(outcome: Outcome) -> (Status, Value) {

@@ -103,7 +103,7 @@ impl Driver {
         }
         self.core.borrow_mut().engine.fill(now);
         self.write(now);
-        self.leave();
+        self.leave(now);
         let has_more = self.core.borrow().engine.has_more(now) || self.net.borrow().has_more();
         has_more || self.shared.has_commands()
     }
@@ -138,8 +138,12 @@ impl Driver {
     }
 
     // Wakes and drops, with nothing borrowed.
-    fn leave(&self) {
-        let (wakers, objects) = self.core.borrow_mut().take_leftovers();
+    fn leave(&self, now: Duration) {
+        let mut core = self.core.borrow_mut();
+        let (wakers, objects) = core.take_leftovers();
+        core.drop_withdrawn(now, false);
+        core.export_ahead();
+        drop(core);
         wakers.into_iter().for_each(std::task::Waker::wake);
         drop(objects);
     }
@@ -163,6 +167,7 @@ impl Driver {
         let wanted = self.core.borrow().engine.next(now);
         let wanted = wanted.into_iter().chain(self.net.borrow().next()).min();
         let left = wanted.map_or(LONGEST_SLEEP, |time| time.saturating_sub(now));
+        self.core.borrow_mut().drop_withdrawn(now, true);
         if self.shared.may_sleep() {
             self.desk.does(Doing::Rests);
             self.net.borrow_mut().sleep(left.min(limit).min(LONGEST_SLEEP));
@@ -219,7 +224,8 @@ impl Driver {
         let commands = self.shared.close();
         self.core.borrow_mut().stop(&commands);
         self.net.borrow_mut().close();
-        self.leave();
+        self.leave(self.now());
+        self.core.borrow_mut().drop_withdrawn(self.now(), true);
         drop(commands);
         // Where that can't be written the next life begins as after a death.
         let _written = self.core.borrow_mut().engine.end_life();

@@ -1,12 +1,14 @@
 //! What a node's threads, its handles and its remote objects share: a line of commands, and who is woken.
 
+use super::ahead::Ahead;
 use super::call::CallState;
 use super::core::{Core, Done};
+use super::Run;
 use super::desks::Desks;
 use super::hold::Hold;
 use super::later::Turned;
 use crate::engine::Ticket;
-use crate::interface::{Description, Packed};
+use crate::interface::{Description, Exported, Packed};
 use crate::space::{Reference, SpaceId};
 use mio::Waker;
 use std::fmt;
@@ -42,6 +44,8 @@ pub(crate) enum Command {
         wanted: Description,
         state: Arc<CallState>,
     },
+    /// An object that is called by a reference that was exported ahead.
+    Place { reference: Reference, object: Box<dyn Exported>, run: Run },
     Abandon(Ticket),
     /// As `Abandon`, and the object's owner is told.
     Cancel(Ticket),
@@ -74,6 +78,7 @@ pub struct Shared {
     stopped: Mutex<bool>,
     stops: Condvar,
     desks: Desks,
+    ahead: Ahead,
 }
 
 impl fmt::Debug for Shared {
@@ -103,6 +108,7 @@ impl Shared {
             stopped: Mutex::new(false),
             stops: Condvar::new(),
             desks: Desks::default(),
+            ahead: Ahead::default(),
         })
     }
 
@@ -112,6 +118,10 @@ impl Shared {
 
     pub(crate) fn desks(&self) -> &Desks {
         &self.desks
+    }
+
+    pub(crate) fn ahead(&self) -> &Ahead {
+        &self.ahead
     }
 
     pub(crate) fn looks(&self) -> Duration {
