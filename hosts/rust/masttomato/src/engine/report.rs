@@ -262,7 +262,7 @@ impl Engine {
     /// # Ok::<(), Box<dyn std::error::Error>>(())
     /// ```
     pub fn report(&self, now: Duration) -> Report {
-        let since = self.jobs.values().map(|(_, since)| *since).min();
+        let since = self.jobs.values().map(|job| job.since).min();
         Report {
             space: self.space.id(),
             live: self.space.live(),

@@ -1,7 +1,7 @@
 //! A node's objects, names and open calls, on its own thread, over an engine.
 
 use super::ahead::Reckoning;
-use super::call::{CallError, CallState, Completed, Fault};
+use super::call::{CallError, CallState, Completed, Fault, Rouse};
 use super::cancel::Cancel;
 use super::hold::Hold;
 use super::later::{Later, Spawn, Turned, Turner};
@@ -11,17 +11,16 @@ use super::spans::{self, ServeSpan};
 use super::{Changes, Context, NodeError, Run};
 use crate::engine::{
     Answered, BAD_ARGUMENTS, CANCELLED, Engine, GREET, LOST, PANICKED, Report, Running, Session,
-    TOO_LARGE, Ticket, fault_value,
+    TOO_LARGE, Ticket, Turn, fault_value,
 };
 use crate::interface::{Arguments, Description, Exported, Packed, Served};
-use crate::numbers::ByNumber;
+use crate::numbers::{ByNumber, ByTheirNumber};
 use crate::space::{
     CallNo, Job, JobNo, Outcome, Reference, Refusal, SpaceError, SpaceId, Status, Value,
 };
 use std::collections::{HashMap, VecDeque};
 use std::panic::{AssertUnwindSafe, catch_unwind};
 use std::sync::{Arc, Weak, mpsc};
-use std::task::Waker;
 use std::time::{Duration, Instant};
 
 /// The agent's methods: what other kinds of nodes have, and what these have beside.
@@ -80,7 +79,7 @@ pub(crate) struct Own {
 }
 
 impl Own {
-    fn answer(mut self, completed: Completed) -> Option<Waker> {
+    fn answer(mut self, completed: Completed) -> Option<Rouse> {
         self.is_answered = true;
         self.state.complete(completed)
     }
@@ -89,9 +88,9 @@ impl Own {
 impl Drop for Own {
     fn drop(&mut self) {
         if !self.is_answered
-            && let Some(waker) = self.state.complete(Err(CallError::NodeStopped))
+            && let Some(rouse) = self.state.complete(Err(CallError::NodeStopped))
         {
-            waker.wake();
+            rouse.rouse();
         }
     }
 }
@@ -239,11 +238,13 @@ pub(crate) struct Core {
     others: HashMap<SpaceId, Holds>,
     calls: ByNumber<Ticket, OpenCall>,
     // Calls of others that wait in an object's line, or run.
-    cancels: HashMap<Caller, Arc<Cancel>>,
+    cancels: ByTheirNumber<Caller, Arc<Cancel>>,
     steps: VecDeque<Step>,
     pool: Option<Arc<Pool>>,
     spawner: Option<Arc<dyn Spawn>>,
     ahead: Reckoning,
+    // Empty, but its room is used again.
+    turn: Turn,
     watchers: Vec<mpsc::Sender<(SpaceId, Session)>>,
     running: usize,
     pub(crate) silent: Vec<SpaceId>,
@@ -251,7 +252,8 @@ pub(crate) struct Core {
     pub(crate) opened: Vec<SpaceId>,
     started: Instant,
     pub(crate) stops_at: Option<Instant>,
-    wakers: Vec<Waker>,
+    /// Who waits for what has come, and is to be roused once nothing of the node is borrowed.
+    pub(crate) rouses: Vec<Rouse>,
     withdrawn: Vec<Box<dyn Exported>>,
     withdrawn_since: Duration,
 }
@@ -271,18 +273,19 @@ impl Core {
             names: HashMap::new(),
             others: HashMap::new(),
             calls: ByNumber::default(),
-            cancels: HashMap::new(),
+            cancels: ByTheirNumber::default(),
             steps: VecDeque::new(),
             pool,
             spawner,
             ahead: Reckoning::default(),
+            turn: Turn::default(),
             watchers: Vec::new(),
             running: 0,
             silent: Vec::new(),
             opened: Vec::new(),
             started,
             stops_at: None,
-            wakers: Vec::new(),
+            rouses: Vec::new(),
             withdrawn: Vec::new(),
             withdrawn_since: Duration::ZERO,
         }
@@ -398,8 +401,8 @@ impl Core {
         Changes::new(receiver)
     }
 
-    fn complete(&mut self, state: &CallState, completed: Completed) {
-        self.wakers.extend(state.complete(completed));
+    fn complete(&mut self, state: &Arc<CallState>, completed: Completed) {
+        self.rouses.extend(state.complete(completed));
     }
 
     fn call(
@@ -435,10 +438,14 @@ impl Core {
             true => self.engine.try_call(ticket, target.reference(), method, packed.value),
             false => self.engine.call(ticket, target.reference(), method, packed.value),
         }
+        let number = self.engine.number(ticket);
         for reference in dropped(packed.holds) {
-            self.engine.release(reference);
+            match number {
+                Some(_) => self.engine.release_sent(reference),
+                None => self.engine.release(reference),
+            }
         }
-        if let Some(number) = self.engine.number(ticket) {
+        if let Some(number) = number {
             state.set_number(number);
         }
     }
@@ -484,7 +491,7 @@ impl Core {
     fn cancelled(&mut self, client: SpaceId, call: CallNo) {
         self.engine.cancel(client, call);
         if let Some(cancel) = self.cancels.get(&(client, call)) {
-            self.wakers.extend(cancel.set());
+            self.rouses.extend(cancel.set().into_iter().map(Rouse::Task));
         }
     }
 
@@ -569,14 +576,23 @@ impl Core {
 
     /// Does all that the engine has to do, up to what is to be written.
     pub(crate) fn work(&mut self, now: Duration) {
-        let turn = self.engine.work(now);
-        for (ticket, answered) in turn.answers {
+        self.engine.go_on(now);
+        let mut turn = std::mem::take(&mut self.turn);
+        if self.engine.swap_turn(&mut turn) {
+            self.given(&mut turn, now);
+        }
+        self.turn = turn;
+    }
+
+    // What the engine gave, of which nothing is left then.
+    fn given(&mut self, turn: &mut Turn, now: Duration) {
+        for (ticket, answered) in turn.answers.drain(..) {
             self.answered(ticket, answered);
         }
-        for job in turn.jobs {
+        for job in turn.jobs.drain(..) {
             self.job(job);
         }
-        for index in turn.withdrawn {
+        for index in turn.withdrawn.drain(..) {
             let object = self.objects.remove(&index).map(|object| object.place);
             if let Some(Place::Here(object)) = object {
                 if self.withdrawn.is_empty() {
@@ -585,12 +601,12 @@ impl Core {
                 self.withdrawn.push(object);
             }
         }
-        for change in turn.changes {
+        for change in turn.changes.drain(..) {
             spans::changed(self.engine.id(), change.0, change.1);
             self.watchers.retain(|watcher| watcher.send(change).is_ok());
         }
-        self.silent.extend(turn.silent);
-        turn.renewed.into_iter().for_each(|peer| self.lose_all(peer));
+        self.silent.append(&mut turn.silent);
+        turn.renewed.drain(..).for_each(|peer| self.lose_all(peer));
     }
 
     // A peer began a new life: what is held of the one before is lost, and given back at once.
@@ -772,7 +788,7 @@ impl Core {
                     Served::Panicked => Err(CallError::Fault(Fault::Panicked)),
                     Served::Cancelled => Err(CallError::Fault(Fault::Cancelled)),
                 };
-                self.wakers.extend(own.answer(completed));
+                self.rouses.extend(own.answer(completed));
             }
         }
     }
@@ -806,12 +822,11 @@ impl Core {
         dropped.into_iter().for_each(|reference| self.engine.release(reference));
     }
 
-    /// What is to be done once nothing of the node is borrowed: who is woken, and objects to be dropped.
-    pub(crate) fn take_leftovers(&mut self) -> (Vec<Waker>, Vec<Box<dyn Exported>>) {
-        let wakers = std::mem::take(&mut self.wakers);
+    /// Objects that are to be dropped once nothing of the node is borrowed, where no worker drops them.
+    pub(crate) fn take_leftovers(&mut self) -> Vec<Box<dyn Exported>> {
         match &self.pool {
-            Some(_) => (wakers, Vec::new()),
-            None => (wakers, std::mem::take(&mut self.withdrawn)),
+            Some(_) => Vec::new(),
+            None => std::mem::take(&mut self.withdrawn),
         }
     }
 
@@ -844,12 +859,12 @@ impl Core {
         for object in self.objects.values_mut() {
             for work in object.line.drain(..) {
                 if let End::Local(own) = work.end {
-                    self.wakers.extend(own.answer(Err(CallError::NodeStopped)));
+                    self.rouses.extend(own.answer(Err(CallError::NodeStopped)));
                 }
             }
             // One that still runs isn't waited for.
             if let Place::Away(Some(state)) = &object.place {
-                self.wakers.extend(state.complete(Err(CallError::NodeStopped)));
+                self.rouses.extend(state.complete(Err(CallError::NodeStopped)));
             }
         }
     }

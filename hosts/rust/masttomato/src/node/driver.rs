@@ -1,5 +1,6 @@
 //! What turns a node: on a thread of its own, or on the thread of whoever waits.
 
+use super::call::Rouse;
 use super::core::{Core, Step};
 use super::desks::Desk;
 use super::net::Net;
@@ -40,6 +41,7 @@ pub(crate) struct Driver {
     started: Instant,
     rests: Cell<u32>,
     commands: RefCell<Vec<Command>>,
+    rouses: RefCell<Vec<Rouse>>,
     desk: Arc<Desk>,
 }
 
@@ -53,6 +55,7 @@ impl Driver {
             started,
             rests: Cell::new(0),
             commands: RefCell::default(),
+            rouses: RefCell::default(),
             desk,
         });
         DRIVERS.with(|drivers| {
@@ -74,6 +77,9 @@ impl Driver {
     }
 
     fn take_commands(&self) {
+        if !self.shared.has_commands() {
+            return;
+        }
         let mut commands = self.commands.take();
         self.shared.take(&mut commands);
         for command in commands.drain(..) {
@@ -94,6 +100,8 @@ impl Driver {
             self.core.borrow_mut().work(now);
             let mut did = false;
             while let Some(step) = self.next_step() {
+                // Whoever has its answer needn't wait for the end of a method.
+                self.rouse();
                 self.make(step);
                 did = true;
             }
@@ -140,24 +148,37 @@ impl Driver {
     // Wakes and drops, with nothing borrowed.
     fn leave(&self, now: Duration) {
         let mut core = self.core.borrow_mut();
-        let (wakers, objects) = core.take_leftovers();
+        let objects = core.take_leftovers();
         core.drop_withdrawn(now, false);
         core.export_ahead();
         drop(core);
-        wakers.into_iter().for_each(std::task::Waker::wake);
+        self.rouse();
         drop(objects);
+    }
+
+    // Rouses who waits for what has come, with nothing borrowed.
+    fn rouse(&self) {
+        if self.core.borrow().rouses.is_empty() {
+            return;
+        }
+        let mut rouses = self.rouses.take();
+        std::mem::swap(&mut rouses, &mut self.core.borrow_mut().rouses);
+        rouses.drain(..).for_each(Rouse::rouse);
+        self.rouses.replace(rouses);
     }
 
     /// Waits for something to do, for so long at most: looks for a while, then sleeps.
     pub(crate) fn rest(&self, limit: Duration) {
         let looks = self.shared.looks().min(limit);
-        let since = Instant::now();
+        let since = self.now();
         if self.rests.get() == 0 && !looks.is_zero() {
-            while since.elapsed() < looks {
-                if self.shared.has_commands() || self.look() {
+            let mut now = since;
+            while now - since < looks {
+                if self.shared.has_commands() || self.look(now) {
                     return;
                 }
                 hint::spin_loop();
+                now = self.now();
             }
             self.rests.set(RESTS);
         } else {
@@ -177,8 +198,8 @@ impl Driver {
     }
 
     // Whether anything came over a connection.
-    fn look(&self) -> bool {
-        self.net.borrow_mut().look(&mut self.core.borrow_mut().engine, self.now())
+    fn look(&self, now: Duration) -> bool {
+        self.net.borrow_mut().look(&mut self.core.borrow_mut().engine, now)
     }
 
     /// Turns the node until something is there, or until a time.

@@ -44,9 +44,7 @@ use crate::engine::{
     Counts, Engine, Hello, Life, Report, Session, Settings, ThreadReport, TraceSink, World,
 };
 use crate::interface::{Description, Exported, Interface};
-use crate::space::{
-    BirthError, Bounds, BoundsError, Reference, SegmentSize, SpaceError, SpaceId,
-};
+use crate::space::{BirthError, Bounds, BoundsError, Reference, SegmentSize, SpaceError, SpaceId};
 use mio::net::TcpListener;
 use mio::{Poll, Waker};
 use std::fmt;

@@ -1,9 +1,9 @@
 //! What a node's threads, its handles and its remote objects share: a line of commands, and who is woken.
 
+use super::Run;
 use super::ahead::Ahead;
 use super::call::CallState;
 use super::core::{Core, Done};
-use super::Run;
 use super::desks::Desks;
 use super::hold::Hold;
 use super::later::Turned;
@@ -45,7 +45,11 @@ pub(crate) enum Command {
         state: Arc<CallState>,
     },
     /// An object that is called by a reference that was exported ahead.
-    Place { reference: Reference, object: Box<dyn Exported>, run: Run },
+    Place {
+        reference: Reference,
+        object: Box<dyn Exported>,
+        run: Run,
+    },
     Abandon(Ticket),
     /// As `Abandon`, and the object's owner is told.
     Cancel(Ticket),

@@ -1488,6 +1488,11 @@ impl Space {
         self.handle.live()
     }
 
+    /// Whether a trace or a chain is kept.
+    pub(crate) fn is_recorded(&self) -> bool {
+        self.trace.is_some() || self.chain.is_some()
+    }
+
     // Where a trace or a chain is kept, what was asked and what came of it is its next entry; but not where
     // memory was wanted. A segment that is full is sealed at once.
     fn noted<T: Clone>(
@@ -1496,7 +1501,7 @@ impl Space {
         event: impl FnOnce() -> Event,
         answer: impl FnOnce(T) -> Answer,
     ) -> Result<T, SpaceError> {
-        if self.trace.is_none() && self.chain.is_none() {
+        if !self.is_recorded() {
             return result;
         }
         let noted = match result.clone() {
