@@ -184,13 +184,14 @@ impl Engine {
         self.ready = ready;
     }
 
-    /// What was given since it was taken last, in place of an empty turn whose room is used again: whether that is anything.
-    pub(crate) fn swap_turn(&mut self, empty: &mut Turn) -> bool {
-        let is_any = !self.turn.is_empty();
-        if is_any {
-            std::mem::swap(&mut self.turn, empty);
-        }
-        is_any
+    /// Whether anything was given since that was taken last.
+    pub(crate) fn has_given(&self) -> bool {
+        !self.turn.is_empty()
+    }
+
+    /// What was given since it was taken last, in place of an empty turn whose room is used again.
+    pub(crate) fn swap_turn(&mut self, empty: &mut Turn) {
+        std::mem::swap(&mut self.turn, empty);
     }
 
     /// From now on no job is claimed.

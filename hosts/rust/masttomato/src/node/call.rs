@@ -189,7 +189,7 @@ impl Rouse {
     pub(crate) fn rouse(self) {
         match self {
             Rouse::Task(waker) => waker.wake(),
-            Rouse::Thread(state) => state.ready.notify_one(),
+            Rouse::Thread(state) => state.rouse(),
         }
     }
 }
@@ -223,6 +223,11 @@ impl CallState {
             Some(waker) => Some(Rouse::Task(waker)),
             None => slot.sleeps.then(|| Rouse::Thread(self.clone())),
         }
+    }
+
+    /// Rouses the thread that sleeps until the answer comes.
+    pub(crate) fn rouse(&self) {
+        self.ready.notify_one();
     }
 
     pub(crate) fn cancel(&self) -> &Cancel {
@@ -459,7 +464,7 @@ impl<T: Pass> Call<T> {
     }
 
     // Looks for a while whether the answer has come, if nobody else does: others would only take the
-    // processors from those who bring it.
+    // processors from those who bring it. Meanwhile it rouses others whose answers have come.
     fn look(&self) {
         let is_done = || self.state.is_done.load(Ordering::Acquire);
         if is_done() {
@@ -469,6 +474,9 @@ impl<T: Pass> Call<T> {
         let since = Instant::now();
         let is_found = || {
             hint::spin_loop();
+            if self.shared.has_asleep() {
+                self.shared.rouse_asleep();
+            }
             is_done()
         };
         while !(0..LOOKS_A_TIME).any(|_| is_found()) && since.elapsed() < looks {}

@@ -291,6 +291,11 @@ impl Core {
         }
     }
 
+    /// Whether the node has a thread of its own, and workers.
+    pub(crate) fn has_thread(&self) -> bool {
+        self.pool.is_some()
+    }
+
     /// How many methods run.
     pub(crate) fn running(&self) -> usize {
         self.running
@@ -577,11 +582,12 @@ impl Core {
     /// Does all that the engine has to do, up to what is to be written.
     pub(crate) fn work(&mut self, now: Duration) {
         self.engine.go_on(now);
-        let mut turn = std::mem::take(&mut self.turn);
-        if self.engine.swap_turn(&mut turn) {
+        if self.engine.has_given() {
+            let mut turn = std::mem::take(&mut self.turn);
+            self.engine.swap_turn(&mut turn);
             self.given(&mut turn, now);
+            self.turn = turn;
         }
-        self.turn = turn;
     }
 
     // What the engine gave, of which nothing is left then.

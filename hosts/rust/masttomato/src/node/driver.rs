@@ -1,6 +1,6 @@
 //! What turns a node: on a thread of its own, or on the thread of whoever waits.
 
-use super::call::Rouse;
+use super::call::{CallState, Rouse};
 use super::core::{Core, Step};
 use super::desks::Desk;
 use super::net::Net;
@@ -15,6 +15,9 @@ use std::time::{Duration, Instant};
 
 /// So long a node sleeps at most, where nothing wants it earlier.
 const LONGEST_SLEEP: Duration = Duration::from_secs(60);
+
+/// So long others are left to rouse those whose answers have come, while there is nothing else to do.
+const LEFT: Duration = Duration::from_micros(2);
 
 thread_local! {
     static DRIVERS: RefCell<Vec<Weak<Driver>>> = const { RefCell::new(Vec::new()) };
@@ -42,6 +45,7 @@ pub(crate) struct Driver {
     rests: Cell<u32>,
     commands: RefCell<Vec<Command>>,
     rouses: RefCell<Vec<Rouse>>,
+    asleep: RefCell<Vec<Arc<CallState>>>,
     desk: Arc<Desk>,
 }
 
@@ -56,6 +60,7 @@ impl Driver {
             rests: Cell::new(0),
             commands: RefCell::default(),
             rouses: RefCell::default(),
+            asleep: RefCell::default(),
             desk,
         });
         DRIVERS.with(|drivers| {
@@ -156,15 +161,29 @@ impl Driver {
         drop(objects);
     }
 
-    // Rouses who waits for what has come, with nothing borrowed.
+    // Rouses who waits for what has come, with nothing borrowed, or leaves that to a thread that looks: for one turn.
     fn rouse(&self) {
+        if self.shared.has_asleep() {
+            self.shared.rouse_asleep();
+        }
         if self.core.borrow().rouses.is_empty() {
             return;
         }
-        let mut rouses = self.rouses.take();
+        let (mut rouses, mut asleep) = (self.rouses.take(), self.asleep.take());
         std::mem::swap(&mut rouses, &mut self.core.borrow_mut().rouses);
-        rouses.drain(..).for_each(Rouse::rouse);
+        for rouse in rouses.drain(..) {
+            match rouse {
+                Rouse::Task(waker) => waker.wake(),
+                Rouse::Thread(state) => asleep.push(state),
+            }
+        }
+        // A node without a thread may not be turned again for long.
+        let may_leave = !asleep.is_empty() && self.core.borrow().has_thread();
+        if !may_leave || !self.shared.leave_asleep(&mut asleep) {
+            asleep.drain(..).for_each(|state| state.rouse());
+        }
         self.rouses.replace(rouses);
+        self.asleep.replace(asleep);
     }
 
     /// Waits for something to do, for so long at most: looks for a while, then sleeps.
@@ -176,6 +195,9 @@ impl Driver {
             while now - since < looks {
                 if self.shared.has_commands() || self.look(now) {
                     return;
+                }
+                if now - since > LEFT && self.shared.has_asleep() {
+                    self.shared.rouse_asleep();
                 }
                 hint::spin_loop();
                 now = self.now();
@@ -189,6 +211,7 @@ impl Driver {
         let wanted = wanted.into_iter().chain(self.net.borrow().next()).min();
         let left = wanted.map_or(LONGEST_SLEEP, |time| time.saturating_sub(now));
         self.core.borrow_mut().drop_withdrawn(now, true);
+        self.shared.rouse_asleep();
         if self.shared.may_sleep() {
             self.desk.does(Doing::Rests);
             self.net.borrow_mut().sleep(left.min(limit).min(LONGEST_SLEEP));
@@ -247,6 +270,7 @@ impl Driver {
         self.net.borrow_mut().close();
         self.leave(self.now());
         self.core.borrow_mut().drop_withdrawn(self.now(), true);
+        self.shared.rouse_asleep();
         drop(commands);
         // Where that can't be written the next life begins as after a death.
         let _written = self.core.borrow_mut().engine.end_life();
