@@ -201,6 +201,7 @@ impl Engine {
         match kind {
             ItemKind::Call { call, target, .. } => {
                 link.calls_acted_on += 1;
+                link.unclaimed += 1;
                 link.asked.insert(call, false);
                 // Whoever may call an object that isn't an agent is listed for it until its calls were acted on.
                 if target != 0 && !self.space.lists(target, peer) {

@@ -233,6 +233,8 @@ pub(super) struct Link {
     /// carried out, also where their session has closed since.
     unlisted: VecDeque<(u64, u64)>,
     pub(super) calls_acted_on: u64,
+    /// How many calls of the peer were acted on and not claimed, those included that are lost.
+    pub(super) unclaimed: u64,
     pub(super) replies_given: u64,
     /// What the peer has acknowledged, by its frames; how much of that was so at the last tick, and when
     /// something that is held found no room.
@@ -278,6 +280,7 @@ impl Link {
             asked: ByTheirNumber::default(),
             unlisted: VecDeque::new(),
             calls_acted_on: 0,
+            unclaimed: 0,
             replies_given: 0,
             acked: 0,
             acked_at_tick: 0,
@@ -395,6 +398,7 @@ impl Link {
         self.early.clear();
         self.unsettled.clear();
         self.asked.clear();
+        self.unclaimed = 0;
         self.stuck_until = None;
     }
 

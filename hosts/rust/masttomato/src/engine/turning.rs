@@ -14,7 +14,7 @@ pub(super) struct Stirred {
     pub(super) clean: bool,
     pub(super) claim: bool,
     pub(super) withdraw: bool,
-    // Something was looked for that could be withdrawn, in vain, while jobs ran, to which an object is lent.
+    // Something was looked for that could be withdrawn, in vain, while there were calls and jobs, to which objects are lent.
     lent: bool,
     // A session has closed or a reference was refused: so messages may be lost that are settled.
     losses: bool,
@@ -280,7 +280,11 @@ impl Engine {
         let lent = Lent { own, others: !references.iter().all(is_own) };
         self.jobs.insert(job.job, Claimed { client: job.client, since: now, lent });
         let link = self.links.get_mut(job.client);
-        if link.is_some_and(|link| link.take_unlisted(job.call.get(), job.target)) {
+        let is_unlisted = link.is_some_and(|link| {
+            link.unclaimed = link.unclaimed.saturating_sub(1);
+            link.take_unlisted(job.call.get(), job.target)
+        });
+        if is_unlisted {
             self.counts.calls_unlisted += 1;
             self.finish(job.job, Outcome::NoMethod);
         } else {
@@ -292,7 +296,8 @@ impl Engine {
     fn withdraw(&mut self) -> bool {
         let Some(index) = self.space.work().withdraw else {
             self.stirred.withdraw = false;
-            self.stirred.lent = !self.jobs.is_empty();
+            let is_unclaimed = self.links.values_mut().any(|link| link.unclaimed > 0);
+            self.stirred.lent = is_unclaimed || !self.jobs.is_empty();
             return false;
         };
         let is_withdrawn = self.space.withdraw(index).is_ok();

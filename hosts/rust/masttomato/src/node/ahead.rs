@@ -47,15 +47,17 @@ impl Reckoning {
         self.ready as u64
     }
 
-    /// Has as many ready as are to be, as long as more can be exported.
+    /// Has as many ready as are to be. Where no more can be exported it isn't tried again before the node was asked as often anew.
     pub(crate) fn fill(&mut self, ahead: &Ahead, mut export: impl FnMut() -> Option<Reference>) {
-        if self.asked < SELDOM || self.ready == self.asked {
+        if self.asked < SELDOM || self.ready >= self.asked {
             return;
         }
         let mut all = ahead.all();
-        while self.ready < self.asked
-            && let Some(reference) = export()
-        {
+        while self.ready < self.asked {
+            let Some(reference) = export() else {
+                self.asked = 0;
+                return;
+            };
             all.push_back(reference);
             self.ready += 1;
         }

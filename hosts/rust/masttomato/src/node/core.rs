@@ -687,19 +687,17 @@ impl Core {
             }
         }
         let packed = Packed { value, holds };
-        if !self.objects.contains_key(&target) {
+        let Some(object) = self.objects.get_mut(&target) else {
             packed.holds.iter().for_each(|hold| hold.end_loan(false));
             return self.engine.finish(job, Outcome::NoMethod);
-        }
+        };
         let (caller, cancel) = ((client, call), Arc::new(Cancel::default()));
         if self.engine.is_cancelled(client, call) {
             let _nobody = cancel.set();
         }
         self.cancels.insert(caller, cancel.clone());
-        if let Some(object) = self.objects.get_mut(&target) {
-            object.line.push_back(Work { end: End::Job { job, caller, cancel }, method, packed });
-            self.start(target);
-        }
+        object.line.push_back(Work { end: End::Job { job, caller, cancel }, method, packed });
+        self.start(target);
     }
 
     // The next call in an object's line begins, where the object is there. Those that were cancelled, and

@@ -86,8 +86,9 @@ pub struct Space {
     trace: Option<Trace>,
     chain: Option<Chain>,
     bounds: Option<Bounds>,
-    // Where bytes of the library are copied to.
+    // Where bytes of the library are copied to, and where pickles are written.
     room: Vec<u8>,
+    pickle: Vec<u8>,
 }
 
 /// What a Transmit would give: see [`Space::due`].
@@ -367,7 +368,8 @@ impl Space {
 
     fn of(handle: Handle, id: SpaceId, spaces: SpaceId, limits: Limits) -> Space {
         let (trace, chain, bounds) = (None, None, None);
-        Space { handle, id, spaces, limits, trace, chain, bounds, room: vec![0; 1024] }
+        let (room, pickle) = (vec![0; 1024], Vec::new());
+        Space { handle, id, spaces, limits, trace, chain, bounds, room, pickle }
     }
 
     /// The bounds that it lives behind, if it does.
@@ -776,6 +778,7 @@ impl Space {
         }
         let (pickle, has_pickle) = self.pickle_of(value);
         let asked = self.handle.call(target.owner.get(), target.index, method, &pickle);
+        self.pickle = pickle;
         let result = judged(told(asked), has_pickle).map(|told| CallNo::new(told.number));
         if let (Ok(made), Some(bounds)) = (&result, &mut self.bounds) {
             bounds.made_call(made.get());
@@ -889,6 +892,7 @@ impl Space {
             Outcome::NoMethod => (2, (Vec::new(), true)),
         };
         let asked = told(self.handle.finish(job.get(), number, &pickle));
+        self.pickle = pickle;
         let result = judged(asked, has_pickle).map(|told| match told.kind {
             7 => ReplyFate::HandedOn,
             8 => ReplyFate::Dropped,
@@ -1527,8 +1531,8 @@ impl Space {
     // library. So it is given a reference in its place which this space can't hold, since no object
     // has that index: it refuses that, by S3, just where it would refuse the value by S7, and does
     // else what it would do with the value.
-    fn pickle_of(&self, value: &Value) -> (Vec<u8>, bool) {
-        if let Ok(pickle) = value.encode() {
+    fn pickle_of(&mut self, value: &Value) -> (Vec<u8>, bool) {
+        if let Ok(pickle) = value.encode_in(std::mem::take(&mut self.pickle)) {
             return (pickle, true);
         }
         let nothing = Reference { owner: self.id, index: u64::MAX };
