@@ -106,7 +106,7 @@ impl Driver {
             let mut did = false;
             while let Some(step) = self.next_step() {
                 // Whoever has its answer needn't wait for the end of a method.
-                self.rouse();
+                self.rouse(false);
                 self.make(step);
                 did = true;
             }
@@ -157,12 +157,12 @@ impl Driver {
         core.drop_withdrawn(now, false);
         core.export_ahead();
         drop(core);
-        self.rouse();
+        self.rouse(true);
         drop(objects);
     }
 
-    // Rouses who waits for what has come, with nothing borrowed, or leaves that to a thread that looks: for one turn.
-    fn rouse(&self) {
+    // Rouses who waits for what has come, with nothing borrowed; or leaves that to a thread that looks, for a turn at most.
+    fn rouse(&self, leaves: bool) {
         if self.shared.has_asleep() {
             self.shared.rouse_asleep();
         }
@@ -178,8 +178,8 @@ impl Driver {
             }
         }
         // A node without a thread may not be turned again for long.
-        let may_leave = !asleep.is_empty() && self.core.borrow().has_thread();
-        if !may_leave || !self.shared.leave_asleep(&mut asleep) {
+        let leaves = leaves && !asleep.is_empty() && self.core.borrow().has_thread();
+        if !leaves || !self.shared.leave_asleep(&mut asleep) {
             asleep.drain(..).for_each(|state| state.rouse());
         }
         self.rouses.replace(rouses);
@@ -234,6 +234,8 @@ impl Driver {
         loop {
             let has_more = self.turn();
             if let Some(found) = found() {
+                // Where a method waited for that it goes on, and may take long.
+                self.shared.rouse_asleep();
                 return Some(found);
             }
             let left = match end {
