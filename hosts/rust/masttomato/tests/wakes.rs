@@ -106,6 +106,104 @@ fn a_node_never_sleeps_while_a_command_waits() {
     assert!(states > 1_000, "{states}");
 }
 
+const ANSWERS: u8 = 3;
+
+/// Threads that sleep until their answers come, of which each was given; and those that were left to who looks.
+#[derive(Clone, Default, PartialEq, Eq, Hash)]
+struct Sleepers {
+    lock: Option<usize>,
+    answered: u8,
+    roused: u8,
+    left: u8,
+    has_some: bool,
+    is_looked_for: bool,
+    // How often the looker looks yet, and where each of both is.
+    looks: u8,
+    places: [u8; 2],
+}
+
+impl Sleepers {
+    // The steps of `Shared::rouse_asleep` behind the first one.
+    fn rouse(&mut self, thread: usize, next: u8) -> Option<()> {
+        match self.lock {
+            None => self.lock = Some(thread),
+            Some(holder) if holder == thread => {
+                self.roused += std::mem::take(&mut self.left);
+                (self.lock, self.places[thread]) = (None, next);
+            }
+            Some(_) => return None,
+        }
+        Some(())
+    }
+}
+
+// The steps of a node's thread: an answer, `Driver::rouse`, and what it does before it sleeps.
+fn answer(mut all: Sleepers) -> Option<Sleepers> {
+    const NODE: usize = 0;
+    match all.places[NODE] {
+        // What was left in the turn before, where it is still there.
+        0 if std::mem::take(&mut all.has_some) => all.places[NODE] = 5,
+        0 if all.answered == ANSWERS => all.places[NODE] = 4,
+        0 => {
+            all.answered += 1;
+            all.places[NODE] = 1;
+        }
+        1 if all.is_looked_for => all.places[NODE] = 2,
+        1 => {
+            all.roused += 1;
+            all.places[NODE] = 0;
+        }
+        2 if all.lock.is_none() => {
+            all.left += 1;
+            all.places[NODE] = 3;
+        }
+        3 => {
+            all.has_some = true;
+            all.places[NODE] = 0;
+        }
+        5 => all.rouse(NODE, 0)?,
+        _ => return None,
+    }
+    Some(all)
+}
+
+// The steps of a thread that looks for its own answer so often: `Call::look`.
+fn look(mut all: Sleepers) -> Option<Sleepers> {
+    const LOOKER: usize = 1;
+    match all.places[LOOKER] {
+        0 => {
+            all.is_looked_for = true;
+            all.places[LOOKER] = 1;
+        }
+        1 if all.looks == 0 => {
+            all.is_looked_for = false;
+            all.places[LOOKER] = 3;
+        }
+        1 => {
+            all.looks -= 1;
+            all.places[LOOKER] = if std::mem::take(&mut all.has_some) { 2 } else { 1 };
+        }
+        2 => all.rouse(LOOKER, 1)?,
+        _ => return None,
+    }
+    Some(all)
+}
+
+#[test]
+fn whoever_has_an_answer_is_roused_before_the_node_sleeps() {
+    for looks in 0..6 {
+        let step = |all: &Sleepers, thread: usize| match thread {
+            0 => answer(all.clone()),
+            _ => look(all.clone()),
+        };
+        let first = Sleepers { looks, ..Sleepers::default() };
+        let states = explore(first, 2, step, |all| {
+            assert_eq!((all.roused, all.left), (ANSWERS, 0), "a thread sleeps for ever");
+        });
+        assert!(states > 10, "{states}");
+    }
+}
+
 const WAKERS: usize = 3;
 const WORKERS: usize = 2;
 

@@ -195,11 +195,13 @@ impl Engine {
     }
 
     fn acted(&mut self, peer: SpaceId, item: u64) {
-        self.is_stirred = true;
         let Some(link) = self.links.get_mut(peer) else { return };
-        match link.inbox.pop_front() {
-            Some(ItemKind::Call { call, target }) => {
+        let kind = link.inbox.pop_front().unwrap_or(ItemKind::Other);
+        self.stirred.is_acted_on(kind);
+        match kind {
+            ItemKind::Call { call, target, .. } => {
                 link.calls_acted_on += 1;
+                link.unclaimed += 1;
                 link.asked.insert(call, false);
                 // Whoever may call an object that isn't an agent is listed for it until its calls were acted on.
                 if target != 0 && !self.space.lists(target, peer) {
@@ -210,7 +212,7 @@ impl Engine {
                     self.close(peer);
                 }
             }
-            Some(ItemKind::Reply(call)) => {
+            ItemKind::Reply { call, .. } => {
                 let call = CallNo::new(call);
                 if self.space.reply_ready(call) {
                     self.ready.push(call);
@@ -218,13 +220,14 @@ impl Engine {
                     link.unsettled.insert(item, call);
                 }
             }
-            Some(ItemKind::Other) | None => {}
+            _ => {}
         }
     }
 
     // The session with a peer has closed: what waited for it ends.
     pub(super) fn closed(&mut self, peer: SpaceId, reason: Reason) {
-        (self.is_stirred, self.has_held) = (true, true);
+        self.stirred.is_closed();
+        self.has_held = true;
         if matches!(reason, Reason::BadItem | Reason::BadReference | Reason::OutOfPlace) {
             self.counts.misbehaved += 1;
         }

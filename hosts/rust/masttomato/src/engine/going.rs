@@ -1,7 +1,8 @@
 //! What goes over connections, and when.
 
+use super::link::OutBuffer;
 use super::wire::{self, Kind, Seen};
-use super::{ACK_ITEMS, ACK_WAITS, Engine, NO_PONG, SILENCE, STUCK, TraceSink};
+use super::{ACK_ITEMS, ACK_WAITS, Engine, LIMITS, NO_PONG, SILENCE, STUCK, TraceSink};
 use crate::space::{Due, Frames, SpaceId};
 use std::time::Duration;
 
@@ -15,6 +16,18 @@ fn is_put(sink: &mut Option<Box<dyn TraceSink>>, lines: &str) -> bool {
         *sink = None;
     }
     is_taken
+}
+
+// Puts a record of these frames to what is to be written.
+fn put_frames<'a, I: Iterator<Item = Seen<'a>>>(
+    out: &mut OutBuffer,
+    stamp: u64,
+    frames: impl Fn() -> I,
+) {
+    let length = frames().map(|frame| frame.bytes.len()).sum();
+    let out = out.bytes_mut();
+    wire::put_head(out, Kind::Frames, stamp, length);
+    frames().for_each(|frame| out.extend(frame.bytes));
 }
 
 impl Engine {
@@ -64,7 +77,7 @@ impl Engine {
     /// Whether there is more to write at once.
     pub(crate) fn has_more(&self, now: Duration) -> bool {
         self.up.iter().any(|peer| {
-            self.links.get(*peer).is_some_and(|link| link.out.is_empty())
+            self.links.get(*peer).is_some_and(|link| link.has_more && link.out.is_empty())
                 && self.is_time_to_transmit(*peer, now)
         })
     }
@@ -80,6 +93,7 @@ impl Engine {
         if pings {
             link.pinged = Some(now);
         }
+        link.has_more = !was_empty;
         if !was_empty {
             return;
         }
@@ -116,15 +130,22 @@ impl Engine {
     // One Transmit, of which new frames are kept until they are acknowledged: all that it gave, and the
     // greatest number that was given before.
     pub(super) fn give(&mut self, peer: SpaceId) -> Option<(Frames, u64)> {
-        let Ok(frames) = self.space.transmit(peer) else {
+        let frames = self.space.transmit(peer);
+        let link = self.links.get_mut(peer)?;
+        let Ok(frames) = frames else {
             self.counts.wants += 1;
+            link.has_more = true;
             return None;
         };
-        let link = self.links.get_mut(peer)?;
         let known = link.given;
-        for frame in wire::frames_of(frames.as_bytes()).filter(|frame| frame.seq() > known) {
-            link.gave(&frame);
+        let mut count = 0_usize;
+        for frame in wire::frames_of(frames.as_bytes()) {
+            count += 1;
+            if frame.seq() > known {
+                link.gave(&frame);
+            }
         }
+        link.has_more = count >= usize::from(LIMITS.window());
         Some((frames, known))
     }
 
@@ -135,29 +156,33 @@ impl Engine {
         let Some((frames, known)) = self.give(peer) else { return };
         let stamp = self.space.stamp();
         let Some(link) = self.links.get_mut(peer) else { return };
-        let is_repeated = |frame: &Seen<'_>| frame.is_data() && frame.seq() <= known;
-        let (repeated, new): (Vec<Seen<'_>>, Vec<Seen<'_>>) =
-            wire::frames_of(frames.as_bytes()).partition(is_repeated);
-        let chosen: Vec<Seen<'_>> = if std::mem::take(&mut link.again) {
-            let first = repeated.first().map_or(0, Seen::seq);
+        let all = || wire::frames_of(frames.as_bytes());
+        let is_new = |frame: &Seen<'_>| !frame.is_data() || frame.seq() > known;
+        if std::mem::take(&mut link.again) {
+            let first = all().find(|frame| !is_new(frame)).map_or(0, |frame| frame.seq());
             let is_other = |frame: &Seen<'_>| (first + 1..=known).contains(&frame.seq());
+            let repeated = all().filter(|frame| !is_new(frame));
             let others = link.sent.frames().filter(is_other);
-            repeated.into_iter().chain(others).chain(new).collect()
-        } else if new.is_empty() && link.owed > 0 {
-            repeated
-        } else {
-            self.counts.frames_left_out += repeated.len() as u64;
-            new
-        };
-        self.counts.frames_out += chosen.len() as u64;
-        if chosen.is_empty() {
+            let chosen: Vec<Seen<'_>> =
+                repeated.chain(others).chain(all().filter(is_new)).collect();
+            self.counts.frames_out += chosen.len() as u64;
+            if !chosen.is_empty() {
+                link.owed = 0;
+                put_frames(&mut link.out, stamp, || chosen.iter().copied());
+            }
             return;
         }
-        link.owed = 0;
-        let length = chosen.iter().map(|frame| frame.bytes.len()).sum();
-        let out = link.out.bytes_mut();
-        wire::put_head(out, Kind::Frames, stamp, length);
-        chosen.iter().for_each(|frame| out.extend(frame.bytes));
+        let new = all().filter(is_new).count() as u64;
+        let repeats = new == 0 && link.owed > 0;
+        let written = || all().filter(|frame| repeats || is_new(frame));
+        if !repeats {
+            self.counts.frames_left_out += all().count() as u64 - new;
+        }
+        self.counts.frames_out += written().count() as u64;
+        if written().next().is_some() {
+            link.owed = 0;
+            put_frames(&mut link.out, stamp, written);
+        }
     }
 
     // The entries go to their sinks before the bytes leave: those of the trace, and those of the chain, with its seals.

@@ -2,8 +2,9 @@
 
 use super::wire::{self, ItemKind, Life, Seen, Why};
 use super::{Session, Ticket};
+use crate::numbers::{ByNumber, ByTheirNumber};
 use crate::space::{CallNo, JobNo, Outcome, Reference, SpaceId, Value};
-use std::collections::{BTreeMap, HashMap, VecDeque};
+use std::collections::{BTreeMap, VecDeque};
 use std::time::Duration;
 
 /// So many numbers from the next on are in a space's reach: it keeps items of these that come early.
@@ -216,20 +217,24 @@ pub(super) struct Link {
     pub(super) sent: Sent,
     /// All that isn't acknowledged is to be written again.
     pub(super) again: bool,
+    /// Something may be left that was never given, since a Transmit gave as much as one may, or none could be made.
+    pub(super) has_more: bool,
     /// The items that wait in the space's inbox, those that it keeps from the next number on, and how many
     /// it has accepted; and the replies whose references aren't settled.
     pub(super) inbox: VecDeque<ItemKind>,
     early: VecDeque<Option<ItemKind>>,
     accepted: u64,
-    pub(super) unsettled: HashMap<u64, CallNo>,
+    pub(super) unsettled: ByNumber<u64, CallNo>,
     passed_over: PassedOver,
     /// The calls of the peer that were acted on and have no reply on its way: whether each was cancelled;
     /// and how many calls were acted on, and replies given.
-    pub(super) asked: HashMap<u64, bool>,
+    pub(super) asked: ByTheirNumber<u64, bool>,
     /// The calls of the peer, and their objects, for which it wasn't listed when they were acted on: they aren't
     /// carried out, also where their session has closed since.
     unlisted: VecDeque<(u64, u64)>,
     pub(super) calls_acted_on: u64,
+    /// How many calls of the peer were acted on and not claimed, those included that are lost.
+    pub(super) unclaimed: u64,
     pub(super) replies_given: u64,
     /// What the peer has acknowledged, by its frames; how much of that was so at the last tick, and when
     /// something that is held found no room.
@@ -266,14 +271,16 @@ impl Link {
             given: 0,
             sent: Sent::default(),
             again: false,
+            has_more: false,
             inbox: VecDeque::new(),
             early: VecDeque::new(),
             accepted: 0,
-            unsettled: HashMap::new(),
+            unsettled: ByNumber::default(),
             passed_over: PassedOver::default(),
-            asked: HashMap::new(),
+            asked: ByTheirNumber::default(),
             unlisted: VecDeque::new(),
             calls_acted_on: 0,
+            unclaimed: 0,
             replies_given: 0,
             acked: 0,
             acked_at_tick: 0,
@@ -344,6 +351,10 @@ impl Link {
     /// A frame of data came, at which the space accepted so many items: this one's and others that it had
     /// kept. Of two frames of one number it keeps the first.
     pub(super) fn came(&mut self, frame: &Seen<'_>, accepted: u64) {
+        if accepted == 1 && self.early.is_empty() && frame.seq() == self.accepted + 1 {
+            self.accepted += 1;
+            return self.inbox.push_back(frame.item());
+        }
         let ahead = frame.seq().checked_sub(self.accepted + 1).filter(|ahead| *ahead < REACH);
         if let Some(place) = ahead.map(|ahead| ahead as usize) {
             if self.early.len() <= place {
@@ -387,6 +398,7 @@ impl Link {
         self.early.clear();
         self.unsettled.clear();
         self.asked.clear();
+        self.unclaimed = 0;
         self.stuck_until = None;
     }
 
@@ -409,7 +421,7 @@ impl Link {
     pub(super) fn gave(&mut self, frame: &Seen<'_>) {
         self.given = frame.seq();
         self.sent.keep(frame);
-        if let ItemKind::Reply(call) = frame.item() {
+        if let ItemKind::Reply { call, .. } = frame.item() {
             self.asked.remove(&call);
             self.unlisted.retain(|(known, _)| *known != call);
             self.replies_given += 1;

@@ -52,6 +52,7 @@ use link::{HeldCall, HeldFinish, Link, Links, Renewal};
 use std::fmt;
 use std::sync::Arc;
 use std::time::Duration;
+use turning::{Lent, Stirred};
 
 /// An acknowledgement alone waits so long, or for so many items, for an item that says it too.
 const ACK_WAITS: Duration = Duration::from_millis(2);
@@ -288,6 +289,17 @@ pub struct Turn {
     pub next: Option<Duration>,
 }
 
+impl Turn {
+    fn is_empty(&self) -> bool {
+        self.jobs.is_empty()
+            && self.answers.is_empty()
+            && self.withdrawn.is_empty()
+            && self.changes.is_empty()
+            && self.renewed.is_empty()
+            && self.silent.is_empty()
+    }
+}
+
 /// What an engine counted.
 ///
 /// ```
@@ -397,17 +409,16 @@ pub struct Engine {
     // Those that are connected.
     up: Vec<SpaceId>,
     claims: bool,
-    // Whether there may be something to settle, claim, give up or withdraw; whether something is held
-    // until there is room, and whether an item waits for room; and when timers are looked at.
-    is_stirred: bool,
+    // What there may be to settle, claim, give up or withdraw; whether something is held until there is room, and whether
+    // an item waits for room; and when timers are looked at.
+    stirred: Stirred,
     has_held: bool,
     has_stuck: bool,
     // Whether a session is to be opened, or a peer to be called, since a life began.
     has_renewals: bool,
     look_at: Duration,
     calls: ByNumber<CallNo, (Ticket, SpaceId)>,
-    // Jobs that weren't finished: whose they are, and since when.
-    jobs: ByNumber<JobNo, (SpaceId, Duration)>,
+    jobs: ByNumber<JobNo, Claimed>,
     tickets: ByNumber<Ticket, Option<CallNo>>,
     ready: Vec<CallNo>,
     turn: Turn,
@@ -415,6 +426,13 @@ pub struct Engine {
     turned_away: Option<TurnedAway>,
     sink: Option<Box<dyn TraceSink>>,
     chain_sink: Option<Box<dyn TraceSink>>,
+}
+
+// A job that wasn't finished: whose it is, since when, and what it is lent.
+struct Claimed {
+    client: SpaceId,
+    since: Duration,
+    lent: Lent,
 }
 
 impl fmt::Debug for Engine {
@@ -500,7 +518,7 @@ impl Engine {
             links,
             up: Vec::new(),
             claims: true,
-            is_stirred: false,
+            stirred: Stirred::default(),
             has_held: false,
             has_stuck: false,
             has_renewals: false,
@@ -845,7 +863,16 @@ impl Engine {
     /// # Ok::<(), Box<dyn std::error::Error>>(())
     /// ```
     pub fn release(&mut self, reference: Reference) {
-        self.is_stirred = true;
+        match reference.owner == self.id() {
+            true => self.stirred.withdraw = true,
+            false => self.stirred.clean = true,
+        }
+        self.release_sent(reference);
+    }
+
+    /// The same of a reference that a call has just taken along: nothing is to be given up or withdrawn for that before
+    /// the peer has said that the call has arrived.
+    pub(crate) fn release_sent(&mut self, reference: Reference) {
         if self.space.release(reference).is_err() {
             self.counts.wants += 1;
         }
@@ -1139,7 +1166,7 @@ impl Engine {
         if let Outcome::Answer(value) | Outcome::Fault(value) = &finish.outcome {
             finish.holds = self.hold_all(value.references());
         }
-        let client = self.jobs.get(&job).map(|(client, _)| *client);
+        let client = self.jobs.get(&job).map(|job| job.client);
         if let Some(link) = client.and_then(|client| self.links.get_mut(client)) {
             link.finishes.push_back(finish);
             self.has_held = true;
@@ -1148,7 +1175,8 @@ impl Engine {
 
     // Whether the job was finished.
     fn try_finish(&mut self, finish: &HeldFinish) -> bool {
-        let Some((client, _)) = self.jobs.get(&finish.job).copied() else { return true };
+        let Some(Claimed { client, lent, .. }) = self.jobs.get(&finish.job) else { return true };
+        let (client, lent) = (*client, *lent);
         match self.space.finish(finish.job, &finish.outcome) {
             Ok(_) => {}
             Err(error) if self.is_want_of_room(client, error) => return false,
@@ -1167,7 +1195,7 @@ impl Engine {
             }
         }
         self.jobs.remove(&finish.job);
-        self.is_stirred = true;
+        self.stirred.is_finished(lent);
         self.counts.jobs_finished += 1;
         true
     }

@@ -268,7 +268,7 @@ impl Engine {
     /// # Ok::<(), Box<dyn std::error::Error>>(())
     /// ```
     pub fn report(&self, now: Duration) -> Report {
-        let since = self.jobs.values().map(|(_, since)| *since).min();
+        let since = self.jobs.values().map(|job| job.since).min();
         let of_space = self.space.counts();
         Report {
             space: self.space.id(),

@@ -1,9 +1,84 @@
 //! What an engine does by itself: it settles, claims, gives up, counts ticks, and tries again.
 
 use super::link::Link;
-use super::{Engine, LOOK, NO_ROOM, TICKS, Turn};
-use crate::space::{Due, Outcome, Reason, SpaceId};
+use super::wire::ItemKind;
+use super::{Claimed, Engine, LOOK, NO_ROOM, TICKS, Turn};
+use crate::space::{Due, Outcome, Reason, Reference, Refusal, SpaceError, SpaceId};
 use std::time::Duration;
+
+/// What a space may have to do by itself, by what happened since it was asked in vain. To ask it costs little, to look what
+/// it could do costs more; and where its entries are recorded each refusal is one, so it is looked first.
+#[derive(Clone, Copy, Debug, Default)]
+pub(super) struct Stirred {
+    pub(super) settle: bool,
+    pub(super) clean: bool,
+    pub(super) claim: bool,
+    pub(super) withdraw: bool,
+    // Something was looked for that could be withdrawn, in vain, while there were calls and jobs, to which objects are lent.
+    lent: bool,
+    // A session has closed or a reference was refused: so messages may be lost that are settled.
+    losses: bool,
+}
+
+impl Stirred {
+    /// There may be all of it.
+    pub(super) fn all(&mut self) {
+        (self.settle, self.clean, self.claim, self.withdraw) = (true, true, true, true);
+    }
+
+    /// A session has closed.
+    pub(super) fn is_closed(&mut self) {
+        self.all();
+        self.losses = true;
+    }
+
+    /// An item was acted on.
+    pub(super) fn is_acted_on(&mut self, kind: ItemKind) {
+        match kind {
+            ItemKind::Call { may_refer, .. } => {
+                self.claim = true;
+                self.settle |= may_refer;
+            }
+            ItemKind::Reply { may_refer, .. } => self.settle |= may_refer,
+            ItemKind::Settle => (self.clean, self.withdraw) = (true, true),
+            ItemKind::Granted => (self.settle, self.clean) = (true, true),
+            ItemKind::Refused => (self.settle, self.clean, self.losses) = (true, true, true),
+            ItemKind::Clean => self.withdraw = true,
+            ItemKind::Dirty => {}
+            ItemKind::Other => self.all(),
+        }
+    }
+
+    /// A job was finished: what it was lent is given back, and its object may have further ones.
+    pub(super) fn is_finished(&mut self, lent: Lent) {
+        self.claim = true;
+        self.clean |= lent.others;
+        self.withdraw |= lent.own || self.lent;
+    }
+
+    // A message was settled: it is a job, or it was lost and what it was lent was given back.
+    fn is_settled(&mut self) {
+        self.claim = true;
+        self.clean |= self.losses;
+        self.withdraw |= self.losses;
+    }
+
+    fn any(&self, claims: bool) -> bool {
+        self.settle || self.clean || self.withdraw || self.claim && claims
+    }
+}
+
+/// Whether a job's argument refers to own objects, and to those of others.
+#[derive(Clone, Copy, Debug)]
+pub(super) struct Lent {
+    own: bool,
+    others: bool,
+}
+
+// Whether something stays to be tried again, since it wasn't done for want of memory or room.
+fn is_wanted(error: SpaceError) -> bool {
+    error != SpaceError::Refused(Refusal::Nothing)
+}
 
 impl Engine {
     /// Does all that there is to do, and fills each connection's output that is empty: `work`, then
@@ -64,6 +139,12 @@ impl Engine {
     /// # Ok::<(), Box<dyn std::error::Error>>(())
     /// ```
     pub fn work(&mut self, now: Duration) -> Turn {
+        self.go_on(now);
+        std::mem::take(&mut self.turn)
+    }
+
+    /// The same, but what it gives is put to what was given before.
+    pub(crate) fn go_on(&mut self, now: Duration) {
         if std::mem::take(&mut self.has_stuck) {
             for peer in self.peers.clone().iter() {
                 self.act(*peer, now);
@@ -76,20 +157,41 @@ impl Engine {
             for peer in self.peers.clone().iter() {
                 self.tick(*peer, now);
             }
+            self.stirred.all();
             self.look_at = now + LOOK.min(self.settings.give_up_after / u32::from(TICKS));
         }
         loop {
-            let did = self.is_stirred && self.stir(now);
-            for call in std::mem::take(&mut self.ready) {
-                self.take_reply(call, Reason::Asked);
+            let did = self.stirred.any(self.claims) && self.stir(now);
+            if !self.ready.is_empty() {
+                self.take_ready();
             }
             if self.has_held {
                 self.retry();
             }
             if !did {
-                return std::mem::take(&mut self.turn);
+                return;
             }
         }
+    }
+
+    // Takes the replies that are ready. Of those that can't be taken now it is tried again in the next turn.
+    fn take_ready(&mut self) {
+        let mut ready = std::mem::take(&mut self.ready);
+        for call in ready.drain(..) {
+            self.take_reply(call, Reason::Asked);
+        }
+        ready.append(&mut self.ready);
+        self.ready = ready;
+    }
+
+    /// Whether anything was given since that was taken last.
+    pub(crate) fn has_given(&self) -> bool {
+        !self.turn.is_empty()
+    }
+
+    /// What was given since it was taken last, in place of an empty turn whose room is used again.
+    pub(crate) fn swap_turn(&mut self, empty: &mut Turn) {
+        std::mem::swap(&mut self.turn, empty);
     }
 
     /// From now on no job is claimed.
@@ -125,35 +227,64 @@ impl Engine {
     fn stir(&mut self, now: Duration) -> bool {
         let mut did_any = false;
         loop {
-            let work = self.space.work();
-            let mut did = work.settle && self.settle();
-            did |= work.clean && self.space.clean().is_ok();
-            did |= work.claim && self.claims && self.claim(now);
-            did |= work.withdraw.is_some_and(|index| self.withdraw(index));
+            if self.space.is_recorded() && self.stirred.any(self.claims) {
+                let work = self.space.work();
+                let (settle, clean, claim) = (work.settle, work.clean, work.claim);
+                let withdraw = work.withdraw.is_some();
+                self.stirred = Stirred { settle, clean, claim, withdraw, ..self.stirred };
+            }
+            let mut did = self.stirred.settle && self.settle();
+            did |= self.stirred.clean && self.clean();
+            did |= self.stirred.claim && self.claims && self.claim(now);
+            did |= self.stirred.withdraw && self.withdraw();
             did_any |= did;
             if !did {
-                // What memory was wanted for is tried again in the next turn.
-                let claims = work.claim && self.claims;
-                self.is_stirred = work.settle || work.clean || claims || work.withdraw.is_some();
                 return did_any;
             }
         }
     }
 
     fn settle(&mut self) -> bool {
-        let Ok(settled) = self.space.settle() else { return false };
+        let settled = match self.space.settle() {
+            Ok(settled) => settled,
+            Err(error) => {
+                self.stirred.settle = is_wanted(error);
+                return false;
+            }
+        };
+        self.stirred.is_settled();
         let link = self.links.get_mut(settled.peer);
         let reply = link.and_then(|link| link.unsettled.remove(&settled.item.get()));
         self.ready.extend(reply);
         true
     }
 
+    fn clean(&mut self) -> bool {
+        let cleaned = self.space.clean();
+        self.stirred.clean = cleaned.is_ok() || cleaned.is_err_and(is_wanted);
+        cleaned.is_ok()
+    }
+
     fn claim(&mut self, now: Duration) -> bool {
-        let Ok(job) = self.space.claim() else { return false };
+        let job = match self.space.claim() {
+            Ok(job) => job,
+            Err(error) => {
+                self.stirred.claim = is_wanted(error);
+                return false;
+            }
+        };
         self.counts.jobs_claimed += 1;
-        self.jobs.insert(job.job, (job.client, now));
+        let references = job.value.references();
+        let is_own = |reference: &Reference| reference.owner == self.id();
+        let own = references.iter().any(is_own);
+        let lent = Lent { own, others: !references.iter().all(is_own) };
+        self.jobs.insert(job.job, Claimed { client: job.client, since: now, lent });
         let link = self.links.get_mut(job.client);
-        if link.is_some_and(|link| link.take_unlisted(job.call.get(), job.target)) {
+        let is_unlisted = link.is_some_and(|link| {
+            link.unclaimed = link.unclaimed.saturating_sub(1);
+            link.take_unlisted(job.call.get(), job.target)
+        });
+        if is_unlisted {
             self.counts.calls_unlisted += 1;
             self.finish(job.job, Outcome::NoMethod);
         } else {
@@ -162,7 +293,13 @@ impl Engine {
         true
     }
 
-    fn withdraw(&mut self, index: u64) -> bool {
+    fn withdraw(&mut self) -> bool {
+        let Some(index) = self.space.work().withdraw else {
+            self.stirred.withdraw = false;
+            let is_unclaimed = self.links.values_mut().any(|link| link.unclaimed > 0);
+            self.stirred.lent = is_unclaimed || !self.jobs.is_empty();
+            return false;
+        };
         let is_withdrawn = self.space.withdraw(index).is_ok();
         if is_withdrawn {
             self.counts.withdrawn += 1;

@@ -465,14 +465,21 @@ impl Seen<'_> {
 
     /// What kind of item it carries.
     pub(crate) fn item(&self) -> ItemKind {
+        let number = || self.u64_at(FRAME_HEADER + 1);
+        let length = self.bytes.len().saturating_sub(FRAME_HEADER);
         match self.bytes.get(FRAME_HEADER) {
-            Some(1) if self.bytes.len() < FRAME_HEADER + 17 => ItemKind::Other,
-            Some(2) if self.bytes.len() < FRAME_HEADER + 9 => ItemKind::Other,
-            Some(1) => {
-                let call = self.u64_at(FRAME_HEADER + 1);
-                ItemKind::Call { call, target: self.u64_at(FRAME_HEADER + 9) }
+            Some(1) if length >= CALL => {
+                let target = self.u64_at(FRAME_HEADER + 9);
+                ItemKind::Call { call: number(), target, may_refer: length >= CALL + REFERENCE }
             }
-            Some(2) => ItemKind::Reply(self.u64_at(FRAME_HEADER + 1)),
+            Some(2) if length >= REPLY => {
+                ItemKind::Reply { call: number(), may_refer: length >= REPLY + REFERENCE }
+            }
+            Some(3) => ItemKind::Settle,
+            Some(4) => ItemKind::Dirty,
+            Some(5) => ItemKind::Granted,
+            Some(6) => ItemKind::Refused,
+            Some(7) => ItemKind::Clean,
             _ => ItemKind::Other,
         }
     }
@@ -483,16 +490,36 @@ impl Seen<'_> {
     }
 }
 
+/// So long a call and a reply are in front of their pickles, and so long is a reference in a pickle.
+const CALL: usize = 19;
+const REPLY: usize = 10;
+const REFERENCE: usize = 11;
+
 /// What an item is, as far as an engine must know.
 #[derive(Clone, Copy, Debug, PartialEq, Eq)]
 pub(crate) enum ItemKind {
-    /// The call of this number among those of its sender, of the object of this index.
+    /// The call of this number among those of its sender, of the object of this index; and whether its value is long
+    /// enough for a reference.
     Call {
         call: u64,
         target: u64,
+        may_refer: bool,
     },
     /// The reply to the call of this number.
-    Reply(u64),
+    Reply {
+        call: u64,
+        may_refer: bool,
+    },
+    /// That the references of a call or a reply have arrived.
+    Settle,
+    /// That its sender wants to be listed for an object.
+    Dirty,
+    /// That the peer is listed, or isn't.
+    Granted,
+    Refused,
+    /// That its sender gives an object up.
+    Clean,
+    /// What is none of these.
     Other,
 }
 

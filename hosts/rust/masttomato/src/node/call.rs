@@ -162,6 +162,9 @@ impl std::error::Error for CallError {
     }
 }
 
+/// So many times it is looked for an answer between two looks at the time.
+const LOOKS_A_TIME: usize = 32;
+
 /// What a call came to, before it is known of which type the answer is to be.
 pub(crate) type Completed = Result<Packed, CallError>;
 
@@ -171,6 +174,24 @@ struct Slot {
     waker: Option<Waker>,
     // Somebody sleeps until it is completed: waking nobody would cost a call of the system too.
     sleeps: bool,
+}
+
+/// Who waits for an answer that has come, and is to be roused. That takes the system's time, so it is done once what is to be
+/// written has been.
+#[derive(Debug)]
+pub(crate) enum Rouse {
+    Task(Waker),
+    /// A thread that sleeps.
+    Thread(Arc<CallState>),
+}
+
+impl Rouse {
+    pub(crate) fn rouse(self) {
+        match self {
+            Rouse::Task(waker) => waker.wake(),
+            Rouse::Thread(state) => state.rouse(),
+        }
+    }
 }
 
 /// Where a call's answer is put.
@@ -193,18 +214,20 @@ impl CallState {
     }
 
     /// Puts the answer there: who is to be woken, once nothing of the node is locked any more.
-    pub(crate) fn complete(&self, completed: Completed) -> Option<Waker> {
+    pub(crate) fn complete(self: &Arc<CallState>, completed: Completed) -> Option<Rouse> {
         self.span.completed(&completed);
         let mut slot = self.slot();
         slot.completed = Some(completed);
         self.is_done.store(true, Ordering::Release);
-        let waker = slot.waker.take();
-        let sleeps = slot.sleeps;
-        drop(slot);
-        if sleeps {
-            self.ready.notify_one();
+        match slot.waker.take() {
+            Some(waker) => Some(Rouse::Task(waker)),
+            None => slot.sleeps.then(|| Rouse::Thread(self.clone())),
         }
-        waker
+    }
+
+    /// Rouses the thread that sleeps until the answer comes.
+    pub(crate) fn rouse(&self) {
+        self.ready.notify_one();
     }
 
     pub(crate) fn cancel(&self) -> &Cancel {
@@ -455,14 +478,22 @@ impl<T: Pass> Call<T> {
     }
 
     // Looks for a while whether the answer has come, if nobody else does: others would only take the
-    // processors from those who bring it.
+    // processors from those who bring it. Meanwhile it rouses others whose answers have come.
     fn look(&self) {
         let is_done = || self.state.is_done.load(Ordering::Acquire);
+        if is_done() {
+            return;
+        }
         let Some(looks) = self.shared.begin_look() else { return };
         let since = Instant::now();
-        while !is_done() && since.elapsed() < looks {
-            (0..64).for_each(|_| hint::spin_loop());
-        }
+        let is_found = || {
+            hint::spin_loop();
+            if self.shared.has_asleep() {
+                self.shared.rouse_asleep();
+            }
+            is_done()
+        };
+        while !(0..LOOKS_A_TIME).any(|_| is_found()) && since.elapsed() < looks {}
         self.shared.end_look(is_done());
     }
 

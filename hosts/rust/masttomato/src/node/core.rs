@@ -1,6 +1,7 @@
 //! A node's objects, names and open calls, on its own thread, over an engine.
 
-use super::call::{CallError, CallState, Completed, Fault};
+use super::ahead::Reckoning;
+use super::call::{CallError, CallState, Completed, Fault, Rouse};
 use super::cancel::Cancel;
 use super::hold::Hold;
 use super::later::{Later, Spawn, Turned, Turner};
@@ -10,17 +11,16 @@ use super::spans::{self, ServeSpan};
 use super::{Changes, Context, NodeError, Run};
 use crate::engine::{
     Answered, BAD_ARGUMENTS, CANCELLED, Engine, GREET, LOST, PANICKED, Report, Running, Session,
-    TOO_LARGE, Ticket, fault_value,
+    TOO_LARGE, Ticket, Turn, fault_value,
 };
 use crate::interface::{Arguments, Description, Exported, Packed, Served};
-use crate::numbers::ByNumber;
+use crate::numbers::{ByNumber, ByTheirNumber};
 use crate::space::{
     CallNo, Job, JobNo, Outcome, Reference, Refusal, SpaceError, SpaceId, Status, Value,
 };
 use std::collections::{HashMap, VecDeque};
 use std::panic::{AssertUnwindSafe, catch_unwind};
 use std::sync::{Arc, Weak, mpsc};
-use std::task::Waker;
 use std::time::{Duration, Instant};
 
 /// The agent's methods: what other kinds of nodes have, and what these have beside.
@@ -38,6 +38,9 @@ const OTHER_INTERFACE: i64 = 5;
 /// So many names there are at most, and so many bytes in one.
 const MOST_NAMES: usize = 1_024;
 const LONGEST_NAME: usize = 255;
+/// So many objects that were withdrawn are dropped at once, or those of so long.
+const DROPS: usize = 64;
+const DROP_WAITS: Duration = Duration::from_millis(1);
 
 /// A call that an object is to carry out.
 struct Work {
@@ -76,7 +79,7 @@ pub(crate) struct Own {
 }
 
 impl Own {
-    fn answer(mut self, completed: Completed) -> Option<Waker> {
+    fn answer(mut self, completed: Completed) -> Option<Rouse> {
         self.is_answered = true;
         self.state.complete(completed)
     }
@@ -85,9 +88,9 @@ impl Own {
 impl Drop for Own {
     fn drop(&mut self) {
         if !self.is_answered
-            && let Some(waker) = self.state.complete(Err(CallError::NodeStopped))
+            && let Some(rouse) = self.state.complete(Err(CallError::NodeStopped))
         {
-            waker.wake();
+            rouse.rouse();
         }
     }
 }
@@ -235,10 +238,13 @@ pub(crate) struct Core {
     others: HashMap<SpaceId, Holds>,
     calls: ByNumber<Ticket, OpenCall>,
     // Calls of others that wait in an object's line, or run.
-    cancels: HashMap<Caller, Arc<Cancel>>,
+    cancels: ByTheirNumber<Caller, Arc<Cancel>>,
     steps: VecDeque<Step>,
     pool: Option<Arc<Pool>>,
     spawner: Option<Arc<dyn Spawn>>,
+    ahead: Reckoning,
+    // Empty, but its room is used again.
+    turn: Turn,
     watchers: Vec<mpsc::Sender<(SpaceId, Session)>>,
     running: usize,
     pub(crate) silent: Vec<SpaceId>,
@@ -246,8 +252,10 @@ pub(crate) struct Core {
     pub(crate) opened: Vec<SpaceId>,
     started: Instant,
     pub(crate) stops_at: Option<Instant>,
-    wakers: Vec<Waker>,
+    /// Who waits for what has come, and is to be roused once nothing of the node is borrowed.
+    pub(crate) rouses: Vec<Rouse>,
     withdrawn: Vec<Box<dyn Exported>>,
+    withdrawn_since: Duration,
 }
 
 impl Core {
@@ -265,19 +273,27 @@ impl Core {
             names: HashMap::new(),
             others: HashMap::new(),
             calls: ByNumber::default(),
-            cancels: HashMap::new(),
+            cancels: ByTheirNumber::default(),
             steps: VecDeque::new(),
             pool,
             spawner,
+            ahead: Reckoning::default(),
+            turn: Turn::default(),
             watchers: Vec::new(),
             running: 0,
             silent: Vec::new(),
             opened: Vec::new(),
             started,
             stops_at: None,
-            wakers: Vec::new(),
+            rouses: Vec::new(),
             withdrawn: Vec::new(),
+            withdrawn_since: Duration::ZERO,
         }
+    }
+
+    /// Whether the node has a thread of its own, and workers.
+    pub(crate) fn has_thread(&self) -> bool {
+        self.pool.is_some()
     }
 
     /// How many methods run.
@@ -295,6 +311,10 @@ impl Core {
                 self.lookup(ticket, peer, name, wanted, state);
             }
             Command::Cast { ticket, hold, wanted, state } => self.cast(ticket, hold, wanted, state),
+            Command::Place { reference, object, run } => {
+                self.ahead.is_placed();
+                self.place(reference, object, run);
+            }
             Command::Abandon(ticket) => {
                 self.calls.remove(&ticket);
                 self.engine.abandon(ticket);
@@ -320,12 +340,34 @@ impl Core {
             SpaceError::Refused(Refusal::Limit) => NodeError::Full,
             error => NodeError::Space(error),
         })?;
+        self.place(reference, object, run);
+        Ok(reference)
+    }
+
+    /// The same for another thread, which waits for it: where that is often so, the next ones won't.
+    pub(crate) fn export_for(
+        &mut self,
+        object: Box<dyn Exported>,
+        run: Run,
+    ) -> Result<Reference, NodeError> {
+        self.ahead.was_asked();
+        self.export(object, run)
+    }
+
+    // An own object is there.
+    fn place(&mut self, reference: Reference, object: Box<dyn Exported>, run: Run) {
         let description = object.describe();
         let place = Place::Here(object);
         let (running, line) = (None, VecDeque::new());
         let object = Object { place, running, run, line, description };
         self.objects.insert(reference.index, object);
-        Ok(reference)
+    }
+
+    /// Exports ahead, where objects are often exported from other threads.
+    pub(crate) fn export_ahead(&mut self) {
+        if self.stops_at.is_none() {
+            self.ahead.fill(self.shared.ahead(), || self.engine.export().ok());
+        }
     }
 
     pub(crate) fn bind(&mut self, name: &str, hold: Arc<Hold>) -> Result<(), NodeError> {
@@ -354,6 +396,9 @@ impl Core {
         let longest = all.min_by_key(|(_, since)| *since);
         report.longest = longest.map(|(running, since)| (running, since.elapsed()));
         report.threads = self.shared.desks().report();
+        let ahead = self.ahead.ready();
+        report.live -= ahead;
+        report.of_space.live -= ahead;
         report
     }
 
@@ -363,8 +408,8 @@ impl Core {
         Changes::new(receiver)
     }
 
-    fn complete(&mut self, state: &CallState, completed: Completed) {
-        self.wakers.extend(state.complete(completed));
+    fn complete(&mut self, state: &Arc<CallState>, completed: Completed) {
+        self.rouses.extend(state.complete(completed));
     }
 
     fn call(
@@ -400,7 +445,14 @@ impl Core {
             true => self.engine.try_call(ticket, target.reference(), method, packed.value),
             false => self.engine.call(ticket, target.reference(), method, packed.value),
         }
-        if let Some(number) = self.engine.number(ticket) {
+        let number = self.engine.number(ticket);
+        for reference in dropped(packed.holds) {
+            match number {
+                Some(_) => self.engine.release_sent(reference),
+                None => self.engine.release(reference),
+            }
+        }
+        if let Some(number) = number {
             state.set_number(number);
         }
     }
@@ -446,7 +498,7 @@ impl Core {
     fn cancelled(&mut self, client: SpaceId, call: CallNo) {
         self.engine.cancel(client, call);
         if let Some(cancel) = self.cancels.get(&(client, call)) {
-            self.wakers.extend(cancel.set());
+            self.rouses.extend(cancel.set().into_iter().map(Rouse::Task));
         }
     }
 
@@ -531,25 +583,38 @@ impl Core {
 
     /// Does all that the engine has to do, up to what is to be written.
     pub(crate) fn work(&mut self, now: Duration) {
-        let turn = self.engine.work(now);
-        for (ticket, answered) in turn.answers {
+        self.engine.go_on(now);
+        if self.engine.has_given() {
+            let mut turn = std::mem::take(&mut self.turn);
+            self.engine.swap_turn(&mut turn);
+            self.given(&mut turn, now);
+            self.turn = turn;
+        }
+    }
+
+    // What the engine gave, of which nothing is left then.
+    fn given(&mut self, turn: &mut Turn, now: Duration) {
+        for (ticket, answered) in turn.answers.drain(..) {
             self.answered(ticket, answered);
         }
-        for job in turn.jobs {
+        for job in turn.jobs.drain(..) {
             self.job(job);
         }
-        for index in turn.withdrawn {
+        for index in turn.withdrawn.drain(..) {
             let object = self.objects.remove(&index).map(|object| object.place);
             if let Some(Place::Here(object)) = object {
+                if self.withdrawn.is_empty() {
+                    self.withdrawn_since = now;
+                }
                 self.withdrawn.push(object);
             }
         }
-        for change in turn.changes {
+        for change in turn.changes.drain(..) {
             spans::changed(self.engine.id(), change.0, change.1);
             self.watchers.retain(|watcher| watcher.send(change).is_ok());
         }
-        self.silent.extend(turn.silent);
-        turn.renewed.into_iter().for_each(|peer| self.lose_all(peer));
+        self.silent.append(&mut turn.silent);
+        turn.renewed.drain(..).for_each(|peer| self.lose_all(peer));
     }
 
     // A peer began a new life: what is held of the one before is lost, and given back at once.
@@ -624,19 +689,17 @@ impl Core {
             }
         }
         let packed = Packed { value, holds };
-        if !self.objects.contains_key(&target) {
+        let Some(object) = self.objects.get_mut(&target) else {
             packed.holds.iter().for_each(|hold| hold.end_loan(false));
             return self.engine.finish(job, Outcome::NoMethod);
-        }
+        };
         let (caller, cancel) = ((client, call), Arc::new(Cancel::default()));
         if self.engine.is_cancelled(client, call) {
             let _nobody = cancel.set();
         }
         self.cancels.insert(caller, cancel.clone());
-        if let Some(object) = self.objects.get_mut(&target) {
-            object.line.push_back(Work { end: End::Job { job, caller, cancel }, method, packed });
-            self.start(target);
-        }
+        object.line.push_back(Work { end: End::Job { job, caller, cancel }, method, packed });
+        self.start(target);
     }
 
     // The next call in an object's line begins, where the object is there. Those that were cancelled, and
@@ -731,7 +794,7 @@ impl Core {
                     Served::Panicked => Err(CallError::Fault(Fault::Panicked)),
                     Served::Cancelled => Err(CallError::Fault(Fault::Cancelled)),
                 };
-                self.wakers.extend(own.answer(completed));
+                self.rouses.extend(own.answer(completed));
             }
         }
     }
@@ -752,8 +815,7 @@ impl Core {
             Served::Panicked => (fault(PANICKED), Vec::new()),
             Served::Cancelled => (fault(CANCELLED), Vec::new()),
         };
-        // A hold that is dropped here is given back by a later command, so after the Finish.
-        drop(holds);
+        let dropped = dropped(holds);
         for loan in loans {
             let is_kept = Arc::strong_count(&loan) > 1;
             let is_held = is_kept && self.engine.hold(loan.reference()).is_ok();
@@ -763,18 +825,24 @@ impl Core {
             }
         }
         self.engine.finish(job, outcome);
+        dropped.into_iter().for_each(|reference| self.engine.release(reference));
     }
 
-    /// What is to be done once nothing of the node is borrowed: who is woken, and objects to be dropped.
-    pub(crate) fn take_leftovers(&mut self) -> (Vec<Waker>, Vec<Box<dyn Exported>>) {
-        let withdrawn = std::mem::take(&mut self.withdrawn);
-        let wakers = std::mem::take(&mut self.wakers);
+    /// Objects that are to be dropped once nothing of the node is borrowed, where no worker drops them.
+    pub(crate) fn take_leftovers(&mut self) -> Vec<Box<dyn Exported>> {
         match &self.pool {
-            Some(pool) => {
-                withdrawn.into_iter().for_each(|object| pool.drop_object(object));
-                (wakers, Vec::new())
-            }
-            None => (wakers, withdrawn),
+            Some(_) => Vec::new(),
+            None => std::mem::take(&mut self.withdrawn),
+        }
+    }
+
+    /// Workers drop the objects that were withdrawn: some at once, so that a worker is woken less often; all of them
+    /// where the node's thread is about to sleep.
+    pub(crate) fn drop_withdrawn(&mut self, now: Duration, sleeps: bool) {
+        let Some(pool) = &self.pool else { return };
+        let is_late = now.saturating_sub(self.withdrawn_since) >= DROP_WAITS;
+        if !self.withdrawn.is_empty() && (sleeps || is_late || self.withdrawn.len() >= DROPS) {
+            pool.drop_objects(self.withdrawn.drain(..));
         }
     }
 
@@ -797,15 +865,22 @@ impl Core {
         for object in self.objects.values_mut() {
             for work in object.line.drain(..) {
                 if let End::Local(own) = work.end {
-                    self.wakers.extend(own.answer(Err(CallError::NodeStopped)));
+                    self.rouses.extend(own.answer(Err(CallError::NodeStopped)));
                 }
             }
             // One that still runs isn't waited for.
             if let Place::Away(Some(state)) = &object.place {
-                self.wakers.extend(state.complete(Err(CallError::NodeStopped)));
+                self.rouses.extend(state.complete(Err(CallError::NodeStopped)));
             }
         }
     }
+}
+
+// Drops holds. Of those that nobody else has it answers the references that were in the hand, which are to be given back
+// right away: so that no command of their drop does.
+fn dropped(holds: Vec<Arc<Hold>>) -> Vec<Reference> {
+    let is_last = |hold: &Arc<Hold>| Arc::strong_count(hold) == 1 && hold.lose();
+    holds.into_iter().filter(is_last).map(|hold| hold.reference()).collect()
 }
 
 fn status_of(outcome: Outcome) -> (Status, Value) {

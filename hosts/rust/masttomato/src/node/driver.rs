@@ -1,5 +1,6 @@
 //! What turns a node: on a thread of its own, or on the thread of whoever waits.
 
+use super::call::{CallState, Rouse};
 use super::core::{Core, Step};
 use super::desks::Desk;
 use super::net::Net;
@@ -14,6 +15,9 @@ use std::time::{Duration, Instant};
 
 /// So long a node sleeps at most, where nothing wants it earlier.
 const LONGEST_SLEEP: Duration = Duration::from_secs(60);
+
+/// So long others are left to rouse those whose answers have come, while there is nothing else to do.
+const LEFT: Duration = Duration::from_micros(2);
 
 thread_local! {
     static DRIVERS: RefCell<Vec<Weak<Driver>>> = const { RefCell::new(Vec::new()) };
@@ -40,6 +44,8 @@ pub(crate) struct Driver {
     started: Instant,
     rests: Cell<u32>,
     commands: RefCell<Vec<Command>>,
+    rouses: RefCell<Vec<Rouse>>,
+    asleep: RefCell<Vec<Arc<CallState>>>,
     desk: Arc<Desk>,
 }
 
@@ -53,6 +59,8 @@ impl Driver {
             started,
             rests: Cell::new(0),
             commands: RefCell::default(),
+            rouses: RefCell::default(),
+            asleep: RefCell::default(),
             desk,
         });
         DRIVERS.with(|drivers| {
@@ -74,6 +82,9 @@ impl Driver {
     }
 
     fn take_commands(&self) {
+        if !self.shared.has_commands() {
+            return;
+        }
         let mut commands = self.commands.take();
         self.shared.take(&mut commands);
         for command in commands.drain(..) {
@@ -94,6 +105,8 @@ impl Driver {
             self.core.borrow_mut().work(now);
             let mut did = false;
             while let Some(step) = self.next_step() {
+                // Whoever has its answer needn't wait for the end of a method.
+                self.rouse(false);
                 self.make(step);
                 did = true;
             }
@@ -103,7 +116,7 @@ impl Driver {
         }
         self.core.borrow_mut().engine.fill(now);
         self.write(now);
-        self.leave();
+        self.leave(now);
         let has_more = self.core.borrow().engine.has_more(now) || self.net.borrow().has_more();
         has_more || self.shared.has_commands()
     }
@@ -138,22 +151,56 @@ impl Driver {
     }
 
     // Wakes and drops, with nothing borrowed.
-    fn leave(&self) {
-        let (wakers, objects) = self.core.borrow_mut().take_leftovers();
-        wakers.into_iter().for_each(std::task::Waker::wake);
+    fn leave(&self, now: Duration) {
+        let mut core = self.core.borrow_mut();
+        let objects = core.take_leftovers();
+        core.drop_withdrawn(now, false);
+        core.export_ahead();
+        drop(core);
+        self.rouse(true);
         drop(objects);
+    }
+
+    // Rouses who waits for what has come, with nothing borrowed; or leaves that to a thread that looks, for a turn at most.
+    fn rouse(&self, leaves: bool) {
+        if self.shared.has_asleep() {
+            self.shared.rouse_asleep();
+        }
+        if self.core.borrow().rouses.is_empty() {
+            return;
+        }
+        let (mut rouses, mut asleep) = (self.rouses.take(), self.asleep.take());
+        std::mem::swap(&mut rouses, &mut self.core.borrow_mut().rouses);
+        for rouse in rouses.drain(..) {
+            match rouse {
+                Rouse::Task(waker) => waker.wake(),
+                Rouse::Thread(state) => asleep.push(state),
+            }
+        }
+        // A node without a thread may not be turned again for long.
+        let leaves = leaves && !asleep.is_empty() && self.core.borrow().has_thread();
+        if !leaves || !self.shared.leave_asleep(&mut asleep) {
+            asleep.drain(..).for_each(|state| state.rouse());
+        }
+        self.rouses.replace(rouses);
+        self.asleep.replace(asleep);
     }
 
     /// Waits for something to do, for so long at most: looks for a while, then sleeps.
     pub(crate) fn rest(&self, limit: Duration) {
         let looks = self.shared.looks().min(limit);
-        let since = Instant::now();
+        let since = self.now();
         if self.rests.get() == 0 && !looks.is_zero() {
-            while since.elapsed() < looks {
-                if self.shared.has_commands() || self.look() {
+            let mut now = since;
+            while now - since < looks {
+                if self.shared.has_commands() || self.look(now) {
                     return;
                 }
+                if now - since > LEFT && self.shared.has_asleep() {
+                    self.shared.rouse_asleep();
+                }
                 hint::spin_loop();
+                now = self.now();
             }
             self.rests.set(RESTS);
         } else {
@@ -163,6 +210,8 @@ impl Driver {
         let wanted = self.core.borrow().engine.next(now);
         let wanted = wanted.into_iter().chain(self.net.borrow().next()).min();
         let left = wanted.map_or(LONGEST_SLEEP, |time| time.saturating_sub(now));
+        self.core.borrow_mut().drop_withdrawn(now, true);
+        self.shared.rouse_asleep();
         if self.shared.may_sleep() {
             self.desk.does(Doing::Rests);
             self.net.borrow_mut().sleep(left.min(limit).min(LONGEST_SLEEP));
@@ -172,8 +221,8 @@ impl Driver {
     }
 
     // Whether anything came over a connection.
-    fn look(&self) -> bool {
-        self.net.borrow_mut().look(&mut self.core.borrow_mut().engine, self.now())
+    fn look(&self, now: Duration) -> bool {
+        self.net.borrow_mut().look(&mut self.core.borrow_mut().engine, now)
     }
 
     /// Turns the node until something is there, or until a time.
@@ -185,6 +234,8 @@ impl Driver {
         loop {
             let has_more = self.turn();
             if let Some(found) = found() {
+                // Where a method waited for that it goes on, and may take long.
+                self.shared.rouse_asleep();
                 return Some(found);
             }
             let left = match end {
@@ -219,7 +270,9 @@ impl Driver {
         let commands = self.shared.close();
         self.core.borrow_mut().stop(&commands);
         self.net.borrow_mut().close();
-        self.leave();
+        self.leave(self.now());
+        self.core.borrow_mut().drop_withdrawn(self.now(), true);
+        self.shared.rouse_asleep();
         drop(commands);
         // Where that can't be written the next life begins as after a death.
         let _written = self.core.borrow_mut().engine.end_life();

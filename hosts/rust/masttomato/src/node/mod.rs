@@ -1,5 +1,6 @@
 //! Nodes: objects, names, calls and connections of one process in a world.
 
+mod ahead;
 mod call;
 mod cancel;
 mod core;
@@ -42,8 +43,8 @@ use self::shared::Command;
 use crate::engine::{
     Counts, Engine, Hello, Life, Report, Session, Settings, ThreadReport, TraceSink, WINDOW, World,
 };
-use crate::interface::{Description, Interface};
-use crate::space::{BirthError, Bounds, BoundsError, SegmentSize, SpaceError, SpaceId};
+use crate::interface::{Description, Exported, Interface};
+use crate::space::{BirthError, Bounds, BoundsError, Reference, SegmentSize, SpaceError, SpaceId};
 use mio::net::TcpListener;
 use mio::{Poll, Waker};
 use std::fmt;
@@ -415,8 +416,27 @@ fn export<I: Interface + ?Sized>(
     object: Box<I>,
     run: Run,
 ) -> Result<Remote<I>, NodeError> {
-    let reference = ask(shared, move |core| core.export(Box::new(object), run))??;
+    let object = Box::new(object);
+    let reference = match driving(shared) {
+        Some(driver) => driver.ask(|core| core.export(object, run))?,
+        None => export_elsewhere(shared, object, run)?,
+    };
     Ok(Remote::new(Hold::held(shared, reference)))
+}
+
+// The same from another thread than the node's, which is asked where nothing was exported ahead.
+fn export_elsewhere(
+    shared: &Arc<Shared>,
+    object: Box<dyn Exported>,
+    run: Run,
+) -> Result<Reference, NodeError> {
+    let Some(reference) = shared.ahead().take() else {
+        return shared.ask(move |core| core.export_for(object, run)).ok_or(NodeError::Stopped)?;
+    };
+    match shared.post(Command::Place { reference, object, run }) {
+        true => Ok(reference),
+        false => Err(NodeError::Stopped),
+    }
 }
 
 fn bind<I: ?Sized>(shared: &Arc<Shared>, name: &str, object: &Remote<I>) -> Result<(), NodeError> {

@@ -52,13 +52,18 @@ impl Pool {
     }
 
     fn give(&self, errand: Errand) {
+        self.give_all([errand].into_iter());
+    }
+
+    // Whoever takes one of them wakes another worker for the rest.
+    fn give_all(&self, errands: impl Iterator<Item = Errand>) {
         let mut line = self.line();
         if line.is_closed {
             drop(line);
-            // Its drop may give another errand, so nothing is locked then.
-            return drop(errand);
+            // A drop may give another errand, so nothing is locked then.
+            return errands.for_each(drop);
         }
-        line.errands.push_back(errand);
+        line.errands.extend(errands);
         let sleep = line.sleep;
         drop(line);
         if sleep > 0 {
@@ -74,8 +79,9 @@ impl Pool {
         self.give(Errand::Turn(method));
     }
 
-    pub(crate) fn drop_object(&self, object: Box<dyn Exported>) {
-        self.give(Errand::Drop(object));
+    /// Drops objects. One whose drop takes its time holds up none of the others as long as there are workers.
+    pub(crate) fn drop_objects(&self, objects: impl Iterator<Item = Box<dyn Exported>>) {
+        self.give_all(objects.map(Errand::Drop));
     }
 
     pub(crate) fn close(&self) {
@@ -91,6 +97,11 @@ impl Pool {
         let mut line = self.line();
         loop {
             if let Some(errand) = line.errands.pop_front() {
+                let wakes = line.sleep > 0 && !line.errands.is_empty();
+                drop(line);
+                if wakes {
+                    self.comes.notify_one();
+                }
                 return Some(errand);
             }
             if line.is_closed {

@@ -1,12 +1,14 @@
 //! What a node's threads, its handles and its remote objects share: a line of commands, and who is woken.
 
+use super::Run;
+use super::ahead::Ahead;
 use super::call::CallState;
 use super::core::{Core, Done};
 use super::desks::Desks;
 use super::hold::Hold;
 use super::later::Turned;
 use crate::engine::Ticket;
-use crate::interface::{Description, Packed};
+use crate::interface::{Description, Exported, Packed};
 use crate::space::{Reference, SpaceId};
 use mio::Waker;
 use std::fmt;
@@ -42,6 +44,12 @@ pub(crate) enum Command {
         wanted: Description,
         state: Arc<CallState>,
     },
+    /// An object that is called by a reference that was exported ahead.
+    Place {
+        reference: Reference,
+        object: Box<dyn Exported>,
+        run: Run,
+    },
     Abandon(Ticket),
     /// As `Abandon`, and the object's owner is told.
     Cancel(Ticket),
@@ -60,20 +68,46 @@ struct Line {
     is_closed: bool,
 }
 
-/// What all that belongs to a node shares.
-pub struct Shared {
-    id: SpaceId,
-    line: Mutex<Line>,
+/// What stands apart in memory, so that threads that write it don't take what is beside it from those that look at that.
+#[derive(Default)]
+#[repr(align(128))]
+struct Apart<T>(T);
+
+/// What the node's thread looks at, and what wakes it.
+struct Bell {
     has_commands: AtomicBool,
     sleeps: AtomicBool,
     waker: Waker,
-    tickets: AtomicU64,
-    looks: Duration,
+}
+
+/// Who looks for answers, or may.
+#[derive(Default)]
+struct Lookers {
     rests: AtomicU32,
     is_looked_for: AtomicBool,
+}
+
+/// Threads that sleep though their answers have come. Who looks rouses them in place of the node's thread, which does it in the
+/// end, and never sleeps before.
+#[derive(Default)]
+struct Left {
+    all: Mutex<Vec<Arc<CallState>>>,
+    has_some: AtomicBool,
+}
+
+/// What all that belongs to a node shares.
+pub struct Shared {
+    id: SpaceId,
+    looks: Duration,
+    line: Apart<Mutex<Line>>,
+    bell: Apart<Bell>,
+    tickets: Apart<AtomicU64>,
+    lookers: Apart<Lookers>,
+    left: Apart<Left>,
     stopped: Mutex<bool>,
     stops: Condvar,
     desks: Desks,
+    ahead: Ahead,
 }
 
 impl fmt::Debug for Shared {
@@ -92,17 +126,20 @@ impl Shared {
     pub(crate) fn new(id: SpaceId, waker: Waker, looks: Duration) -> Arc<Shared> {
         Arc::new(Shared {
             id,
-            line: Mutex::default(),
-            has_commands: AtomicBool::new(false),
-            sleeps: AtomicBool::new(false),
-            waker,
-            tickets: AtomicU64::new(1),
             looks,
-            rests: AtomicU32::new(0),
-            is_looked_for: AtomicBool::new(false),
+            line: Apart::default(),
+            bell: Apart(Bell {
+                has_commands: AtomicBool::new(false),
+                sleeps: AtomicBool::new(false),
+                waker,
+            }),
+            tickets: Apart(AtomicU64::new(1)),
+            lookers: Apart::default(),
+            left: Apart::default(),
             stopped: Mutex::new(false),
             stops: Condvar::new(),
             desks: Desks::default(),
+            ahead: Ahead::default(),
         })
     }
 
@@ -114,6 +151,10 @@ impl Shared {
         &self.desks
     }
 
+    pub(crate) fn ahead(&self) -> &Ahead {
+        &self.ahead
+    }
+
     pub(crate) fn looks(&self) -> Duration {
         self.looks
     }
@@ -122,27 +163,51 @@ impl Shared {
     /// some times after that was in vain.
     pub(crate) fn begin_look(&self) -> Option<Duration> {
         let rest = |rests: u32| rests.checked_sub(1);
-        if self.looks.is_zero() || self.rests.fetch_update(Relaxed, Relaxed, rest).is_ok() {
+        if self.looks.is_zero() || self.lookers.0.rests.fetch_update(Relaxed, Relaxed, rest).is_ok()
+        {
             return None;
         }
-        (!self.is_looked_for.swap(true, Relaxed)).then_some(self.looks)
+        (!self.lookers.0.is_looked_for.swap(true, Relaxed)).then_some(self.looks)
     }
 
     /// Who looked has ended: whether that was in vain.
     pub(crate) fn end_look(&self, found: bool) {
-        self.is_looked_for.store(false, Relaxed);
+        self.lookers.0.is_looked_for.store(false, Relaxed);
         if !found {
-            self.rests.store(RESTS, Relaxed);
+            self.lookers.0.rests.store(RESTS, Relaxed);
+        }
+    }
+
+    /// Leaves threads that sleep to be roused by who looks, if anybody does: whether it was left to that.
+    pub(crate) fn leave_asleep(&self, all: &mut Vec<Arc<CallState>>) -> bool {
+        let is_looked_for = self.lookers.0.is_looked_for.load(Relaxed);
+        if is_looked_for {
+            unpoisoned(self.left.0.all.lock()).append(all);
+            self.left.0.has_some.store(true, SeqCst);
+        }
+        is_looked_for
+    }
+
+    /// Whether there are threads to be roused.
+    pub(crate) fn has_asleep(&self) -> bool {
+        self.left.0.has_some.load(Relaxed)
+    }
+
+    /// Rouses threads that were left asleep.
+    pub(crate) fn rouse_asleep(&self) {
+        if self.left.0.has_some.swap(false, SeqCst) {
+            let all = std::mem::take(&mut *unpoisoned(self.left.0.all.lock()));
+            all.iter().for_each(|state| state.rouse());
         }
     }
 
     pub(crate) fn next_ticket(&self) -> Ticket {
-        Ticket(self.tickets.fetch_add(1, SeqCst))
+        Ticket(self.tickets.0.fetch_add(1, SeqCst))
     }
 
     /// Whether the command is in the line; it isn't once the node has stopped.
     pub(crate) fn post(&self, command: Command) -> bool {
-        let mut line = unpoisoned(self.line.lock());
+        let mut line = unpoisoned(self.line.0.lock());
         if line.is_closed {
             drop(line);
             // What is in the command may post when it is dropped, so nothing is locked then.
@@ -150,54 +215,54 @@ impl Shared {
             return false;
         }
         line.commands.push(command);
-        self.has_commands.store(true, SeqCst);
+        self.bell.0.has_commands.store(true, SeqCst);
         drop(line);
-        if self.sleeps.swap(false, SeqCst) {
+        if self.bell.0.sleeps.swap(false, SeqCst) {
             // A waker that fails has nobody to wake.
-            let _woken = self.waker.wake();
+            let _woken = self.bell.0.waker.wake();
         }
         true
     }
 
     /// Has the node's thread turn, whether it sleeps or is about to: for who left it something elsewhere than in the line.
     pub(crate) fn rouse(&self) {
-        let _woken = self.waker.wake();
+        let _woken = self.bell.0.waker.wake();
     }
 
     pub(crate) fn has_commands(&self) -> bool {
-        self.has_commands.load(SeqCst)
+        self.bell.0.has_commands.load(SeqCst)
     }
 
     /// All commands that are in the line, in place of an empty list.
     pub(crate) fn take(&self, into: &mut Vec<Command>) {
-        if self.has_commands.swap(false, SeqCst) {
-            std::mem::swap(&mut unpoisoned(self.line.lock()).commands, into);
+        if self.bell.0.has_commands.swap(false, SeqCst) {
+            std::mem::swap(&mut unpoisoned(self.line.0.lock()).commands, into);
         }
     }
 
     /// Whether the node's thread may sleep: whoever posts from now on wakes it.
     pub(crate) fn may_sleep(&self) -> bool {
-        self.sleeps.store(true, SeqCst);
+        self.bell.0.sleeps.store(true, SeqCst);
         let may = !self.has_commands();
         if !may {
-            self.sleeps.store(false, SeqCst);
+            self.bell.0.sleeps.store(false, SeqCst);
         }
         may
     }
 
     pub(crate) fn awake(&self) {
-        self.sleeps.store(false, SeqCst);
+        self.bell.0.sleeps.store(false, SeqCst);
     }
 
     /// No command is taken any more: those that were in the line.
     pub(crate) fn close(&self) -> Vec<Command> {
-        let mut line = unpoisoned(self.line.lock());
+        let mut line = unpoisoned(self.line.0.lock());
         line.is_closed = true;
         std::mem::take(&mut line.commands)
     }
 
     pub(crate) fn is_closed(&self) -> bool {
-        unpoisoned(self.line.lock()).is_closed
+        unpoisoned(self.line.0.lock()).is_closed
     }
 
     /// Asks the node's thread, and waits for what it says: `None` where it has stopped.

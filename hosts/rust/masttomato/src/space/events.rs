@@ -87,8 +87,9 @@ pub struct Space {
     trace: Option<Trace>,
     chain: Option<Chain>,
     bounds: Option<Bounds>,
-    // Where bytes of the library are copied to.
+    // Where bytes of the library are copied to, and where pickles are written.
     room: Vec<u8>,
+    pickle: Vec<u8>,
 }
 
 /// What a Transmit would give: see [`Space::due`].
@@ -372,7 +373,8 @@ impl Space {
 
     fn of(handle: Handle, id: SpaceId, spaces: SpaceId, limits: Limits) -> Space {
         let (trace, chain, bounds) = (None, None, None);
-        Space { handle, id, spaces, limits, trace, chain, bounds, room: vec![0; 1024] }
+        let (room, pickle) = (vec![0; 1024], Vec::new());
+        Space { handle, id, spaces, limits, trace, chain, bounds, room, pickle }
     }
 
     /// The bounds that it lives behind, if it does.
@@ -781,6 +783,7 @@ impl Space {
         }
         let (pickle, has_pickle) = self.pickle_of(value);
         let asked = self.handle.call(target.owner.get(), target.index, method, &pickle);
+        self.pickle = pickle;
         let result = judged(told(asked), has_pickle).map(|told| CallNo::new(told.number));
         if let (Ok(made), Some(bounds)) = (&result, &mut self.bounds) {
             bounds.made_call(made.get());
@@ -894,6 +897,7 @@ impl Space {
             Outcome::NoMethod => (2, (Vec::new(), true)),
         };
         let asked = told(self.handle.finish(job.get(), number, &pickle));
+        self.pickle = pickle;
         let result = judged(asked, has_pickle).map(|told| match told.kind {
             7 => ReplyFate::HandedOn,
             8 => ReplyFate::Dropped,
@@ -1584,6 +1588,11 @@ impl Space {
         Some(Front { item: ItemNo::new(front.item), is })
     }
 
+    /// Whether a trace or a chain is kept.
+    pub(crate) fn is_recorded(&self) -> bool {
+        self.trace.is_some() || self.chain.is_some()
+    }
+
     // Where a trace or a chain is kept, what was asked and what came of it is its next entry; but not where
     // memory was wanted. A segment that is full is sealed at once.
     fn noted<T: Clone>(
@@ -1592,7 +1601,7 @@ impl Space {
         event: impl FnOnce() -> Event,
         answer: impl FnOnce(T) -> Answer,
     ) -> Result<T, SpaceError> {
-        if self.trace.is_none() && self.chain.is_none() {
+        if !self.is_recorded() {
             return result;
         }
         let noted = match result.clone() {
@@ -1618,8 +1627,8 @@ impl Space {
     // library. So it is given a reference in its place which this space can't hold, since no object
     // has that index: it refuses that, by S3, just where it would refuse the value by S7, and does
     // else what it would do with the value.
-    fn pickle_of(&self, value: &Value) -> (Vec<u8>, bool) {
-        if let Ok(pickle) = value.encode() {
+    fn pickle_of(&mut self, value: &Value) -> (Vec<u8>, bool) {
+        if let Ok(pickle) = value.encode_in(std::mem::take(&mut self.pickle)) {
             return (pickle, true);
         }
         let nothing = Reference { owner: self.id, index: u64::MAX };

@@ -158,7 +158,18 @@ impl Value {
     /// The first fault in writing order; but that it would be too long comes before all others.
     pub fn encode(&self) -> Result<Vec<u8>, PickleFault> {
         let length = self.add_length(0).ok_or(PickleFault::TooBig)?;
-        let mut pickle = Writer { bytes: Vec::with_capacity(length), references: 0 };
+        self.put_in(Vec::with_capacity(length))
+    }
+
+    /// The same in place of what these bytes were.
+    pub(super) fn encode_in(&self, mut room: Vec<u8>) -> Result<Vec<u8>, PickleFault> {
+        self.add_length(0).ok_or(PickleFault::TooBig)?;
+        room.clear();
+        self.put_in(room)
+    }
+
+    fn put_in(&self, bytes: Vec<u8>) -> Result<Vec<u8>, PickleFault> {
+        let mut pickle = Writer { bytes, references: 0 };
         pickle.put(self, 1)?;
         Ok(pickle.bytes)
     }

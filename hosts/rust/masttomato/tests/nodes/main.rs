@@ -17,6 +17,7 @@ use masttomato::space::{
 use masttomato::{CallError, Fault, Node, NodeError, Peers, Reason, Remote, Run, Session};
 use plain::Plain;
 use proxy::Proxy;
+use std::collections::HashSet;
 use std::future::Future;
 use std::io::{Read, Write};
 use std::net::{TcpListener, TcpStream};
@@ -847,4 +848,32 @@ fn a_sleeping_node_is_woken() {
         }
     });
     assert_eq!(counter.add(0).wait(), Ok(6_000));
+}
+
+// Who often exports doesn't wait for the node's thread any more, and what the node has ready for it isn't counted.
+#[test]
+fn objects_are_exported_by_many_threads() {
+    let two = pair().1;
+    let some = || (0..100).map(|_| tally(&two)).collect::<Vec<_>>();
+    let all: Vec<_> = thread::scope(|scope| {
+        let threads: Vec<_> = (0..4).map(|_| scope.spawn(some)).collect();
+        threads.into_iter().flat_map(|thread| thread.join().expect("no panic")).collect()
+    });
+    let (objects, alive): (HashSet<_>, Vec<_>) = all.into_iter().unzip();
+    assert_eq!((objects.len(), two.report().expect("it runs").live), (400, 400));
+    for object in objects {
+        assert_eq!(object.add(7).wait(), Ok(7));
+    }
+    eventually("all are dropped", || alive.iter().all(|alive| alive.load(SeqCst) == 0));
+    eventually("none is live", || two.report().expect("it runs").live == 0);
+    assert_eq!(two.counts().withdrawn, 400);
+}
+
+// Of many callers one looks and the others sleep: each is woken once its answer has come.
+#[test]
+fn many_threads_call_by_one_node() {
+    let (_one, _two, counter, _alive) = pair();
+    let calls = || (0..300).for_each(|_| assert!(counter.add(1).wait().is_ok()));
+    thread::scope(|scope| (0..8).for_each(|_| drop(scope.spawn(calls))));
+    assert_eq!(counter.add(0).wait(), Ok(2_400));
 }

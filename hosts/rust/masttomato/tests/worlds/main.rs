@@ -90,6 +90,20 @@ fn a_thousand_worlds_want_memory() {
     assert!(wants > 10_000, "{wants}");
 }
 
+// An engine that isn't recorded asks its space where one that is looks first what there is to do.
+#[test]
+fn a_thousand_worlds_are_not_recorded() {
+    let mut objects = 0;
+    for seed in 1..=1_000 {
+        let script = Script::of_seed(seed);
+        let mut world = World::unrecorded(&script);
+        world.play(&script);
+        world.judge();
+        objects += world.sums().2;
+    }
+    assert!(objects > 1_000, "{objects}");
+}
+
 #[test]
 fn a_script_is_played_again() {
     let Ok(path) = std::env::var("WORLD_SCRIPT") else { return };

@@ -40,6 +40,7 @@ pub struct World {
     // Pairs of whom one opened the session anew.
     opened: BTreeSet<(usize, usize)>,
     spoils: bool,
+    is_recorded: bool,
 }
 
 // A new object. Where memory is wanted, it is asked for again.
@@ -58,6 +59,15 @@ pub fn space(place: usize) -> SpaceId {
 
 impl World {
     pub fn new(script: &Script) -> World {
+        World::with(script, true)
+    }
+
+    /// One whose engines aren't recorded: these ask their spaces in other ways.
+    pub fn unrecorded(script: &Script) -> World {
+        World::with(script, false)
+    }
+
+    fn with(script: &Script, is_recorded: bool) -> World {
         let count = usize::from(script.nodes);
         let node = |place| {
             let mut settings = Settings::new(space(place), space(count - 1));
@@ -66,16 +76,18 @@ impl World {
             let mut engine = Engine::new(settings, Duration::ZERO).expect("memory");
             let lines = Arc::new(Mutex::new(String::new()));
             let sink = lines.clone();
-            engine.record(Box::new(move |text: &str| {
-                sink.lock().expect("no panic").push_str(text);
-                Ok(())
-            }));
+            if is_recorded {
+                engine.record(Box::new(move |text: &str| {
+                    sink.lock().expect("no panic").push_str(text);
+                    Ok(())
+                }));
+            }
             let (now, hands, jobs) = (Duration::ZERO, Vec::new(), Vec::new());
             Node { engine, now, hands, jobs, exported: 0, withdrawn: 0, lines }
         };
         let nodes = (0..count).map(node).collect();
         let (net, calls, opened) = (Net::default(), HashMap::new(), BTreeSet::new());
-        let mut world = World { nodes, net, calls, made: 0, opened, spoils: false };
+        let mut world = World { nodes, net, calls, made: 0, opened, spoils: false, is_recorded };
         for one in 0..count {
             (0..one).for_each(|other| world.connect(one, other));
         }
@@ -371,6 +383,9 @@ impl World {
         // Whoever has a reference is listed for its object whenever a call of it is acted on.
         let unlisted = |node: &Node| node.engine.counts().calls_unlisted;
         assert_eq!(self.nodes.iter().map(unlisted).sum::<u64>(), 0);
+        if !self.is_recorded {
+            return;
+        }
         let traces = self.traces();
         if let Some(fault) = fault_of(&traces) {
             panic!("{fault}");
