@@ -1,6 +1,6 @@
 //! A node, as its application sees it.
 
-ghost use Rattle.std.specs.Prelude.{◌≡◌, ◌++◌, List, [], Some, None, Ok, Err, reverse, IfOk, IfErr, IfSome, OnOk, OnErr};
+ghost use Rattle.std.specs.Prelude.{◌≡◌, ◌≢◌, ◌++◌, List, [], Some, None, Ok, Err, reverse, IfOk, IfErr, IfSome, OnOk, OnErr};
 ghost use Rattle.nob_model_types.specs.declared.event.Event.TheVariants as events;
 ghost use Rattle.nob_model_types.specs.declared.answer.Answer.TheVariants as answers;
 ghost use Rattle.nob_pickle.specs.declared.value.Value.TheVariants as values;
@@ -72,6 +72,7 @@ impl<'x, B: Object> Node<'x, B> {
     fn ask<R: Wait>(&mut self, rt: &R, event: &Event) -> Result<(), NodeError>
         ensures asked { OnOk result (calls.IsAsked self.old self.new event.now) }
         ensures refused { IfErr result (λ error. calls.IsRefusal self.old self.new event.now error) }
+        ensures want { IfErr result (λ error. calls.KeepsOnWant self.old self.new error) }
     {
         if let Err(error) = Calls::call(self.site, rt, &mut self.seat, event, 0) {
             return Err(NodeError::Keeper(error));
@@ -86,12 +87,29 @@ impl<'x, B: Object> Node<'x, B> {
     fn ask_done<R: Wait>(&mut self, rt: &R, event: &Event) -> Result<(), NodeError>
         ensures done { OnOk result (calls.Answered self.old self.new event.now (Ok answers.Done)) }
         ensures refused { IfErr result (λ error. calls.IsRefusal self.old self.new event.now error) }
+        ensures want { IfErr result (λ error. calls.KeepsOnWant self.old self.new error) }
     {
         self.ask(rt, event)?;
         match is_done_in(&self.seat) {
             Some(()) => Ok(()),
             None => Err(STRANGE),
         }
+    }
+
+    // One event of the space, once there is memory for its entry: want of memory is waited out.
+    fn ask_surely<R: Wait>(&mut self, rt: &R, event: &Event) -> Result<(), NodeError>
+        ensures asked { OnOk result (calls.IsAsked self.old self.new event.now) }
+        ensures refused { IfErr result (λ error. calls.IsRefusal self.old self.new event.now error) }
+        ensures only { IfErr result (λ error. error ≢ calls.want) }
+    {
+        for _ in rt.forever() {
+            match self.ask(rt, event) {
+                Ok(()) => return Ok(()),
+                Err(NodeError::Keeper(KeeperError::OutOfMemory)) => thread::yield_now(),
+                Err(error) => return Err(error),
+            }
+        }
+        unreachable!()
     }
 
     /// Makes an object known: a hold on a reference to it. The object comes back where that fails:
@@ -110,8 +128,8 @@ impl<'x, B: Object> Node<'x, B> {
             return Err((STRANGE, object));
         };
         let index = rep.index;
-        match self.site.add(rt, self.alloc, index, object) {
-            Ok(()) => Ok(Hold { rep }),
+        match self.site.jobs.add(rt, self.alloc, index, object) {
+            Ok(_placed) => Ok(Hold { rep }),
             Err(object) => {
                 self.take_back(rt, index, rep);
                 Err((NodeError::Keeper(KeeperError::OutOfMemory), object))
@@ -119,10 +137,11 @@ impl<'x, B: Object> Node<'x, B> {
         }
     }
 
-    // Gives up an object that there was no room for.
+    // Gives up an object that there was no room for. Want of memory is waited out: else it would stay
+    // live for good.
     fn take_back<R: Wait>(&mut self, rt: &R, index: u64, rep: WireRep) {
-        let _ = self.ask(rt, &Event::Release(rep));
-        let _ = self.ask(rt, &Event::Withdraw(index));
+        let _ = self.ask_surely(rt, &Event::Release(rep));
+        let _ = self.ask_surely(rt, &Event::Withdraw(index));
     }
 
     /// One hold more on the same reference. J1, J2 (S2, S3, S4, S13).
@@ -300,10 +319,13 @@ impl<'x, B: Object> Node<'x, B> {
     }
 
     /// Has a name stand for the reference of a hold at this node's own agent, which keeps a hold of
-    /// its own on it. The reference that the name stood for is given back. It waits while the agent
-    /// runs. J2: S7 where these bytes are no name (1 to 255 bytes), S13 where there are 1,024 names
-    /// and it is none of them, and as `dup`.
-    pub fn bind<R: Wait>(&mut self, rt: &R, name: &[u8], hold: &Hold) -> Result<(), NodeError> {
+    /// its own on it. The reference that the name stood for is given back, for which want of memory
+    /// is waited out. It waits while the agent runs. J2: S7 where these bytes are no name (1 to 255
+    /// bytes), S13 where there are 1,024 names and it is none of them, and as `dup`.
+    pub fn bind<R: Wait>(&mut self, rt: &R, name: &[u8], hold: &Hold) -> Result<(), NodeError>
+        ensures want { IfErr result (λ error.
+            calls.KeepsHoldsOnWant self.old self.new hold.now.rep error) }
+    {
         let name = match Name::new(self.alloc, name) {
             Ok(Some(name)) => name,
             Ok(None) => return Err(NodeError::Refused(Refusal::TooBig)),
@@ -315,21 +337,24 @@ impl<'x, B: Object> Node<'x, B> {
         let bound = self.bind_at(rt, &mut agent, name, hold);
         self.site.give_agent_back(rt, agent);
         match bound? {
-            Some(before) => self.ask_done(rt, &Event::Release(before)),
+            Some(before) => self.ask_surely(rt, &Event::Release(before)),
             None => Ok(()),
         }
     }
 
     /// Removes a name at this node's own agent, and gives back the reference that it stood for, if
-    /// there is such a name. It waits while the agent runs. J1.
-    pub fn unbind<R: Wait>(&mut self, rt: &R, name: &[u8]) -> Result<(), NodeError> {
+    /// there is such a name. It waits while the agent runs, and where memory is wanted: else that
+    /// hold would be lost. J1, but not for want of memory.
+    pub fn unbind<R: Wait>(&mut self, rt: &R, name: &[u8]) -> Result<(), NodeError>
+        ensures only { IfErr result (λ error. error ≢ calls.want) }
+    {
         let Some(mut agent) = self.site.borrow_agent(rt) else {
             return Err(STRANGE);
         };
         let before = agent.remove(name);
         self.site.give_agent_back(rt, agent);
         match before {
-            Some(before) => self.ask_done(rt, &Event::Release(before)),
+            Some(before) => self.ask_surely(rt, &Event::Release(before)),
             None => Ok(()),
         }
     }
@@ -349,7 +374,10 @@ impl<'x, B: Object> Node<'x, B> {
         agent: &mut Kept<B>,
         name: Name,
         hold: &Hold,
-    ) -> Result<Option<WireRep>, NodeError> {
+    ) -> Result<Option<WireRep>, NodeError>
+        ensures want { IfErr result (λ error.
+            calls.KeepsHoldsOnWant self.old self.new hold.now.rep error) }
+    {
         if agent.is_full_for(&name) {
             return Err(NodeError::Refused(Refusal::Limit));
         }
@@ -357,7 +385,7 @@ impl<'x, B: Object> Node<'x, B> {
         match agent.put(name, hold.rep) {
             Some(before) => Ok(before),
             None => {
-                let _ = self.ask(rt, &Event::Release(hold.rep));
+                self.ask_surely(rt, &Event::Release(hold.rep))?;
                 Err(NodeError::Keeper(KeeperError::OutOfMemory))
             }
         }
