@@ -1,0 +1,92 @@
+//! What a round is.
+
+use crate::chance::Chance;
+use nob_ids::Limits;
+use nob_node::Keep;
+use nob_nodes::Shape;
+
+/// What is asked for: so many rounds, one after the other, from a seed on, but none begins after so many
+/// seconds, where these aren't 0. Where the spaces or the workers are 0 each round has some by chance.
+#[derive(Clone, Copy, Debug)]
+pub(crate) struct Wish {
+    pub(crate) seed: u64,
+    pub(crate) rounds: u64,
+    pub(crate) steps: u64,
+    pub(crate) spaces: u64,
+    pub(crate) workers: u64,
+    pub(crate) seconds: u64,
+}
+
+/// A round: so many spaces, whose players take so many steps each, in phases.
+#[derive(Clone, Copy, Debug)]
+pub(crate) struct Round {
+    /// Which one.
+    pub(crate) number: u64,
+    /// Where all its chances start.
+    pub(crate) seed: u64,
+    /// How many spaces there are, 2 to 8.
+    pub(crate) spaces: u16,
+    /// How many steps each player takes in all.
+    pub(crate) steps: u64,
+    /// Of a thousand steps so many close a session.
+    pub(crate) closes: u64,
+    /// How many pairs of nodes have links whose ends are let go in the middle.
+    pub(crate) cuts: u64,
+    /// How the nodes run, and what the links do.
+    pub(crate) shape: Shape,
+}
+
+impl Round {
+    // The one of a number.
+    pub(crate) fn of(wish: Wish, number: u64) -> Round {
+        let mut chance = Chance::new(wish.seed, number);
+        let spaces = wished(wish.spaces, &mut chance, 2, 8);
+        let keep = if chance.is_so(50) {
+            Keep::All
+        } else {
+            Keep::Nothing
+        };
+        let mut shape = Shape::new(keep);
+        shape.workers = wished(wish.workers, &mut chance, 1, 16) as usize;
+        shape.loss = if chance.is_so(25) {
+            0
+        } else {
+            1 + chance.below(4)
+        };
+        shape.seed = chance.below(1 << 32);
+        shape.pause = 1 + chance.below(8) as u32;
+        shape.tick_every = 100 + chance.below(300) as u32;
+        shape.capacity = 1 + chance.below(64) as usize;
+        shape.limits = limits_by(&mut chance);
+        Round {
+            number,
+            seed: chance.below(1 << 32),
+            spaces: spaces as u16,
+            steps: wish.steps,
+            closes: if chance.is_so(30) {
+                0
+            } else {
+                chance.below(20)
+            },
+            cuts: if chance.is_so(60) { 0 } else { chance.below(3) },
+            shape,
+        }
+    }
+}
+
+// A number that is wished, or one by chance, in a range.
+fn wished(wish: u64, chance: &mut Chance, least: u64, most: u64) -> u64 {
+    let drawn = least + chance.below(most - least + 1);
+    if wish == 0 {
+        drawn
+    } else {
+        wish.clamp(least, most)
+    }
+}
+
+// The limits of all sessions.
+fn limits_by(chance: &mut Chance) -> Limits {
+    let limits = Limits::default();
+    let window = 1 + chance.below(64);
+    Limits::new(window, limits.retry).unwrap_or(limits)
+}
