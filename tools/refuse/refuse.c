@@ -2,7 +2,7 @@
    the file REFUSE_MARK is made when the call is refused.
 
    Where REFUSE is some, allocations fail by chance: one of REFUSE_AT, by the seed REFUSE_SEED, from a line `begin` of what the
-   program writes on until a line `ended`. The file REFUSE_MARK then says how many did, at the end. */
+   program writes on until a line `ended`. The file REFUSE_MARK says how many did, behind each such line. */
 #define _GNU_SOURCE
 #include <dlfcn.h>
 #include <errno.h>
@@ -33,7 +33,7 @@ __attribute__((constructor)) static void read_chances(void) {
   one_of = strtoull(at, NULL, 10);
 }
 
-__attribute__((destructor)) static void say_failed(void) {
+static void say_failed(void) {
   const char *mark = getenv("REFUSE_MARK");
   FILE *file = one_of && mark ? fopen(mark, "w") : NULL;
   if (!file) return;
@@ -78,7 +78,10 @@ ssize_t write(int file, const void *bytes, size_t size) {
   static ssize_t (*next)(int, const void *, size_t);
   if (!next) next = (ssize_t(*)(int, const void *, size_t))dlsym(RTLD_NEXT, "write");
   if (one_of && size >= 5 && memcmp(bytes, "begin", 5) == 0) __atomic_store_n(&is_on, 1, __ATOMIC_SEQ_CST);
-  if (one_of && size >= 5 && memcmp(bytes, "ended", 5) == 0) __atomic_store_n(&is_on, 0, __ATOMIC_SEQ_CST);
+  if (one_of && size >= 5 && memcmp(bytes, "ended", 5) == 0) {
+    __atomic_store_n(&is_on, 0, __ATOMIC_SEQ_CST);
+    say_failed();
+  }
   if (!refuses("write")) return next(file, bytes, size);
   errno = EIO;
   return -1;

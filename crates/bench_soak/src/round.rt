@@ -1,7 +1,7 @@
 //! What a round is.
 
 use crate::chance::Chance;
-use nob_ids::Limits;
+use nob_ids::{Limits, SpaceId};
 use nob_node::Keep;
 use nob_nodes::Shape;
 
@@ -30,11 +30,19 @@ pub(crate) struct Round {
     pub(crate) steps: u64,
     /// Of a thousand steps so many close a session.
     pub(crate) closes: u64,
-    /// How many pairs of nodes have links whose ends are let go in the middle.
+    /// Of a hundred pairs of nodes so many have links whose ends are let go in the middle.
     pub(crate) cuts: u64,
     /// How the nodes run, and what the links do.
     pub(crate) shape: Shape,
 }
+
+/// A tick is made after so many turns at least, and after twice as many at most.
+const TICK: u64 = 128;
+
+/// So many parcels are carried at least, and so many at most, before links are let go.
+const LEAST_CARRIED: u64 = 100;
+
+const MOST_CARRIED: u64 = 4_000;
 
 impl Round {
     // The one of a number.
@@ -54,8 +62,9 @@ impl Round {
             1 + chance.below(4)
         };
         shape.seed = chance.below(1 << 32);
-        shape.pause = 1 + chance.below(8) as u32;
-        shape.tick_every = 100 + chance.below(300) as u32;
+        let pause = 1 + chance.below(8);
+        shape.pause = pause as u32;
+        shape.tick_every = ((TICK + chance.below(TICK)) / pause) as u32;
         shape.capacity = 1 + chance.below(64) as usize;
         shape.limits = limits_by(&mut chance);
         Round {
@@ -68,9 +77,24 @@ impl Round {
             } else {
                 chance.below(20)
             },
-            cuts: if chance.is_so(60) { 0 } else { chance.below(3) },
+            cuts: if chance.is_so(60) {
+                0
+            } else {
+                chance.below(40)
+            },
             shape,
         }
+    }
+
+    // After how many parcels the links between two nodes are let go, if they are.
+    pub(crate) fn cut_between(&self, one: SpaceId, other: SpaceId) -> Option<u64> {
+        let first = u64::from(one.get().min(other.get()));
+        let second = u64::from(one.get().max(other.get()));
+        let mut chance = Chance::new(self.seed, 1_000 + 100 * first + second);
+        if !chance.is_so(self.cuts) {
+            return None;
+        }
+        Some(LEAST_CARRIED + chance.below(MOST_CARRIED - LEAST_CARRIED))
     }
 }
 

@@ -1,7 +1,6 @@
 //! How a round runs.
 
 use crate::carriers::{Carrier, Way};
-use crate::chance::Chance;
 use crate::desk::Desk;
 use crate::judging::{Outcome, outcome_of};
 use crate::player::Soaker;
@@ -13,11 +12,6 @@ use nob_nodes::{Nodes, run_nodes};
 use std::alloc::Global;
 use std::sync::Wait;
 use std::thread::Threads;
-
-/// So many parcels are carried at least, and so many at most, before links are let go.
-const LEAST_CARRIED: u64 = 100;
-
-const MOST_CARRIED: u64 = 4_000;
 
 // Runs a round: what it came to. `None` where there is no memory for its parts, or a node's thread
 // can't be made.
@@ -62,22 +56,17 @@ pub(crate) fn space_at(place: usize) -> Option<SpaceId> {
 // The nodes, with links between each two of them, and who carries between those whose links are cut.
 // Only memory fails it.
 fn nodes_of(alloc: Global, round: Round) -> Option<(Nodes, Vec<Carrier>)> {
-    let mut chance = Chance::new(round.seed, 0);
     let mut nodes = Nodes::new(alloc, round.shape, round.spaces)?;
     let mut carriers = Vec::new(alloc);
-    let mut cuts = round.cuts;
     for second in 2..=round.spaces {
         for first in 1..second {
             let one = SpaceId::new(first)?;
             let other = SpaceId::new(second)?;
-            if cuts > 0 && chance.is_so(30) {
-                cuts = cuts.saturating_sub(1);
-                let left = LEAST_CARRIED + chance.below(MOST_CARRIED - LEAST_CARRIED);
-                carriers
+            match round.cut_between(one, other) {
+                Some(left) => carriers
                     .push(carrier_between(&mut nodes, one, other, left)?)
-                    .ok()?;
-            } else {
-                nodes.link(one, other)?;
+                    .ok()?,
+                None => nodes.link(one, other)?,
             }
         }
     }

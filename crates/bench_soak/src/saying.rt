@@ -40,7 +40,7 @@ fn say_round<R: Print>(rt: &R, round: Round) -> io::Result<()> {
     let closes = round.closes;
     let keep = round.shape.keep;
     println!(rt;
-        "round {number}: {spaces} spaces, {workers} workers, loss {loss}, {closes} closes of 1000, {cuts} cuts, keeps {keep:?}"
+        "round {number}: {spaces} spaces, {workers} workers, loss {loss}, {closes} closes of 1000, {cuts} cuts of 100, keeps {keep:?}"
     )
 }
 
