@@ -1,6 +1,5 @@
 -- How the nodes of a program run, and of which spaces they are.
-use Rattle.std.specs.Prelude.{◌≡◌, ℕ, List, map, All}
-use Rattle.nob_keeper.specs.Segments.{spaces_to}
+use Rattle.std.specs.Prelude.{◌≡◌, ℕ, suc, List, [], ◌∷◌}
 use Rattle.nob_node_site.specs.declared.config.Config.{Config}
 use Rattle.nob_nodes.specs.declared.shape.Shape.{Shape}
 
@@ -14,6 +13,7 @@ pub record IsShaped (shape : Shape) (space count : ℕ) (config : Config) : Type
   pub tick_every : config.tick_every ≡ shape.tick_every
   pub keep : config.keep ≡ shape.keep
 
--- these are nodes of so many spaces, one of each, in order, and each is one of as many
-abbrev pub AreOfEach : ℕ → List Config → Type 0
-AreOfEach count configs = (map (λ config. config.space) configs ≡ spaces_to count) × All (λ config. config.n ≡ count) configs
+-- nodes of the spaces from a number on, one of each, in order, and each is one of so many
+abbrev pub AreFrom : (first count : ℕ) → List Config → Type 0
+AreFrom first count [] = Unit {0}
+AreFrom first count (config ∷ configs) = (config.space ≡ first) × (config.n ≡ count) × AreFrom (suc first) count configs

@@ -1,7 +1,7 @@
 //! How nodes run.
 
-ghost use Rattle.std.specs.Prelude.{◌≡◌, ◌<◌, ◌≤◌, length, map, vec_len, vec_capacity, IfSome, OnSome};
-ghost use Rattle.nob_nodes.specs.Shapes.{AreOfEach};
+ghost use Rattle.std.specs.Prelude.{◌≡◌, [], length, map, IfSome};
+ghost use Rattle.nob_nodes.specs.Shapes.{AreFrom};
 ghost use denote.Param.Send.{IsSend, IsSync};
 
 use crate::beside::Beside;
@@ -110,16 +110,18 @@ pub fn run_nodes<
     A: Player<O> + Send + Drop,
     B: Beside,
 >(rt: &R, nodes: Nodes, gate: &G, players: Vec<A>, beside: &mut B) -> Option<Vec<Played<O, A>>>
-    ensures { IfSome result (λ all.
-        AreOfEach (length players.items) (map (λ played. played.config) all.items)) }
+    ensures each { IfSome result (λ all.
+        AreFrom 1 (length players.items) (map (λ played. played.config) all.items)) }
+    ensures all { IfSome result (λ all. length all.items ≡ length players.items) }
 {
     let Nodes { alloc, places, .. } = nodes;
     let count = u16::try_from(players.len()).ok()?;
+    let spaces = SpaceId::new(count)?;
     let posts = posts_of::<O, A>(alloc, places, players, count)?;
-    let all = Vec::with_capacity(alloc, posts.len()).ok()?;
+    let nothing = Vec::with_capacity(alloc, posts.len()).ok()?;
     let meeting = Meeting::new(u64::from(count));
     run_posts(rt, &meeting, gate, posts.as_slice(), beside);
-    played_of(posts, count, all)
+    played_from(posts, 1, spaces, nothing)
 }
 
 // The place of each node, with its player. `None` where there aren't as many of these.
@@ -128,32 +130,60 @@ fn posts_of<O: Object, A: Drop>(
     places: Vec<Place>,
     players: Vec<A>,
     spaces: u16,
-) -> Option<Vec<Post<O, A>>> {
+) -> Option<Vec<Post<O, A>>>
+    ensures { IfSome result (λ posts. length posts.items ≡ length players.items) }
+{
     if places.len() != players.len() {
         return None;
     }
-    let mut posts = Vec::with_capacity(alloc, places.len()).ok()?;
-    for (place, player) in places.into_iter().zip(players) {
-        let Place {
-            space,
-            config,
-            ends,
-        } = place;
-        let start = Start {
-            alloc,
-            space,
-            config,
-            ends,
-            spaces,
-            player,
+    let room = Vec::with_capacity(alloc, places.len()).ok()?;
+    add_posts(alloc, places, players, spaces, room)
+}
+
+// The places of these nodes, with their players, in front of nothing.
+fn add_posts<O: Object, A: Drop>(
+    alloc: Global,
+    mut places: Vec<Place>,
+    mut players: Vec<A>,
+    spaces: u16,
+    nothing: Vec<Post<O, A>>,
+) -> Option<Vec<Post<O, A>>>
+    requires { nothing.items ≡ [] }
+    ensures { IfSome result (λ posts. length posts.items ≡ length players.items) }
+{
+    if places.is_empty() || players.is_empty() {
+        return if players.is_empty() {
+            Some(nothing)
+        } else {
+            None
         };
-        let post = Post {
-            start: Mutex::new(Some(start)),
-            played: Mutex::new(None),
-        };
-        posts.push(post).ok()?;
     }
-    Some(posts)
+    let place = places.remove(0);
+    let player = players.remove(0);
+    let mut rest = add_posts(alloc, places, players, spaces, nothing)?;
+    rest.insert(0, post_of(alloc, place, player, spaces)).ok()?;
+    Some(rest)
+}
+
+// The place of a node, with its player.
+fn post_of<O: Object, A: Drop>(alloc: Global, place: Place, player: A, spaces: u16) -> Post<O, A> {
+    let Place {
+        space,
+        config,
+        ends,
+    } = place;
+    let start = Start {
+        alloc,
+        space,
+        config,
+        ends,
+        spaces,
+        player,
+    };
+    Post {
+        start: Mutex::new(Some(start)),
+        played: Mutex::new(None),
+    }
 }
 
 // Runs a thread for each place, and what runs beside them in this one.
@@ -181,24 +211,43 @@ fn run_posts<
     );
 }
 
-// What the places of so many nodes leave, which is put into a vector that has room for it.
-fn played_of<O: Object, A: Drop>(
-    posts: Vec<Post<O, A>>,
-    count: u16,
-    mut all: Vec<Played<O, A>>,
-) -> Option<Vec<Played<O, A>>> {
-    let spaces = SpaceId::new(count)?;
-    for post in posts {
-        let Post { start: _, played } = post;
-        let played = played.into_inner()?;
-        let number = u16::try_from(all.len().checked_add(1)?).ok()?;
-        if !played.config.is_of(SpaceId::new(number)?, spaces) {
-            return None;
-        }
-        all.push(played).ok()?;
+// What the places from the one of a space on leave, each one of so many, in front of nothing.
+fn played_from<O: Object, A: Drop>(
+    mut posts: Vec<Post<O, A>>,
+    first: u16,
+    spaces: SpaceId,
+    nothing: Vec<Played<O, A>>,
+) -> Option<Vec<Played<O, A>>>
+    requires { nothing.items ≡ [] }
+    ensures each { IfSome result (λ all.
+        AreFrom first spaces (map (λ played. played.config) all.items)) }
+    ensures all { IfSome result (λ all. length all.items ≡ length posts.items) }
+{
+    if posts.is_empty() {
+        return Some(nothing);
     }
-    if all.len() == usize::from(count) {
-        Some(all)
+    let post = posts.remove(0);
+    let played = played_in(post, first, spaces)?;
+    let mut rest = played_from(posts, first.checked_add(1)?, spaces, nothing)?;
+    rest.insert(0, played).ok()?;
+    Some(rest)
+}
+
+// What the place of a space leaves, of so many. That its node was of this space is looked at once more:
+// it always was.
+fn played_in<O: Object, A: Drop>(
+    post: Post<O, A>,
+    number: u16,
+    spaces: SpaceId,
+) -> Option<Played<O, A>>
+    ensures { IfSome result (λ played.
+        (played.config.space ≡ number) × (played.config.n ≡ spaces)) }
+{
+    let Post { start: _, played } = post;
+    let played = played.into_inner()?;
+    let space = SpaceId::new(number)?;
+    if played.config.is_of(space, spaces) {
+        Some(played)
     } else {
         None
     }
