@@ -106,7 +106,7 @@ pub(crate) fn hear_others<R: Wait>(soaker: &mut Soaker, rt: &R, node: &mut Node<
 }
 
 // Asks a peer for a name that it hasn't, until it answers, or the session is closed.
-fn hear<R: Wait>(soaker: &mut Soaker, rt: &R, node: &mut Node<Thing>, peer: SpaceId) {
+pub(crate) fn hear<R: Wait>(soaker: &mut Soaker, rt: &R, node: &mut Node<Thing>, peer: SpaceId) {
     for _ in 0..TRIES {
         if is_closed(rt, node, peer) {
             return;

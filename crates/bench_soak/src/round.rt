@@ -28,7 +28,8 @@ pub(crate) struct Round {
     pub(crate) spaces: u16,
     /// How many steps each player takes in all.
     pub(crate) steps: u64,
-    /// Of a thousand steps so many close a session.
+    /// Of a thousand steps so many close a session; over links that lose, of a hundred sessions so many
+    /// are closed between two phases.
     pub(crate) closes: u64,
     /// Of a hundred pairs of nodes so many have links whose ends are let go in the middle.
     pub(crate) cuts: u64,
@@ -36,7 +37,8 @@ pub(crate) struct Round {
     pub(crate) shape: Shape,
 }
 
-/// A tick is made after so many turns at least, and after twice as many at most.
+/// A tick is made after so many turns at least, and after twice as many at most; over links that lose
+/// after eight times as many.
 const TICK: u64 = 128;
 
 /// So many parcels are carried at least, and so many at most, before links are let go.
@@ -62,9 +64,8 @@ impl Round {
             1 + chance.below(4)
         };
         shape.seed = chance.below(1 << 32);
-        let pause = 1 + chance.below(8);
-        shape.pause = pause as u32;
-        shape.tick_every = ((TICK + chance.below(TICK)) / pause) as u32;
+        shape.pause = 1 + chance.below(8) as u32;
+        shape.tick_every = ticks_by(&mut chance, shape);
         shape.capacity = 1 + chance.below(64) as usize;
         shape.limits = limits_by(&mut chance);
         Round {
@@ -106,6 +107,14 @@ fn wished(wish: u64, chance: &mut Chance, least: u64, most: u64) -> u64 {
     } else {
         wish.clamp(least, most)
     }
+}
+
+// After how many repeats a tick is made.
+fn ticks_by(chance: &mut Chance, shape: Shape) -> u32 {
+    let turns = TICK + chance.below(TICK);
+    let all = if shape.loss == 0 { turns } else { 8 * turns };
+    let repeats = all.checked_div(u64::from(shape.pause)).unwrap_or(all);
+    u32::try_from(repeats).unwrap_or(u32::MAX)
 }
 
 // The limits of all sessions.

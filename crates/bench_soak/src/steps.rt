@@ -4,7 +4,7 @@ use crate::calling::call_any;
 use crate::desk::Doing;
 use crate::figures::add;
 use crate::kind::{KINDS, Kind};
-use crate::mending::open_anew;
+use crate::mending::{close, open_anew};
 use crate::player::{NAMES, Soaker, name_of};
 use crate::pocket::{Held, Pocket};
 use crate::thing::Thing;
@@ -25,7 +25,7 @@ pub(crate) fn step<R: Wait>(
     if pocket.len() > MOST_HELD {
         pocket.give_one_back(rt, node, &mut soaker.chance);
     }
-    if soaker.chance.below(1_000) < soaker.round.closes {
+    if soaker.round.shape.loss == 0 && soaker.chance.below(1_000) < soaker.round.closes {
         close_any(soaker, rt, node);
     }
     match soaker.chance.below(100) {
@@ -169,15 +169,10 @@ fn any_place(soaker: &mut Soaker) -> u8 {
     1 + drawn as u8
 }
 
-// Closes the session with a peer.
+// Closes the session with a peer by chance.
 fn close_any<R: Wait>(soaker: &mut Soaker, rt: &R, node: &mut Node<Thing>) {
-    let Some(peer) = soaker.any_peer() else {
-        return;
-    };
-    soaker.say(rt, Doing::Closes(peer.get()));
-    match node.close(rt, peer) {
-        Ok(()) => add(&mut soaker.figures.closes),
-        Err(error) => soaker.figures.count_error(error),
+    if let Some(peer) = soaker.any_peer() {
+        close(soaker, rt, node, peer);
     }
 }
 
