@@ -84,7 +84,9 @@ fn value_by(soaker: &mut Soaker, target: Reference, pocket: &Pocket) -> Value {
     };
     match passed {
         Some(reference) => value_of(soaker, reference),
-        None if soaker.chance.is_so(50) => Value::Int(soaker.chance.below(1_000) as i64),
+        None if soaker.chance.is_so(50) => Value::Int(i64::from(
+            soaker.chance.small_between(0, 255),
+        )),
         None => Value::Unit,
     }
 }

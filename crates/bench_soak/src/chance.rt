@@ -20,6 +20,24 @@ impl Chance {
         mixed(self.state).checked_rem(bound).unwrap_or(0)
     }
 
+    // The next one, from one number to another.
+    pub(crate) fn between(&mut self, least: u64, most: u64) -> u64 {
+        let numbers = most.saturating_sub(least).saturating_add(1);
+        least.saturating_add(self.below(numbers))
+    }
+
+    // The next one, from one small number to another.
+    pub(crate) fn small_between(&mut self, least: u8, most: u8) -> u8 {
+        let drawn = self.between(u64::from(least), u64::from(most));
+        u8::try_from(drawn).unwrap_or(most)
+    }
+
+    // The next one, a place in a list that is so long.
+    pub(crate) fn place_in(&mut self, length: usize) -> usize {
+        let drawn = self.below(u64::try_from(length).unwrap_or(u64::MAX));
+        usize::try_from(drawn).unwrap_or(0)
+    }
+
     // Whether something is so that is so as often of a hundred times.
     pub(crate) fn is_so(&mut self, of_hundred: u64) -> bool {
         self.below(100) < of_hundred

@@ -102,7 +102,7 @@ impl Outcome {
     // What a node left: its chain, if it kept one.
     fn add_report(&mut self, report: Report<Thing>) -> Option<Chain> {
         let Report { record, objects } = report;
-        self.left = self.left.saturating_add(objects.len() as u64);
+        self.left = self.left.saturating_add(counted(objects.len()));
         match record {
             Record::Chain(chain) => {
                 self.entries = self.entries.saturating_add(entries_in(&chain));
@@ -121,9 +121,14 @@ impl Outcome {
 fn entries_in(chain: &Chain) -> u64 {
     let mut count: u64 = 0;
     for segment in chain.parts().segments.as_slice() {
-        count = count.saturating_add(segment.entries.as_slice().len() as u64);
+        count = count.saturating_add(counted(segment.entries.as_slice().len()));
     }
     count
+}
+
+// How many a length is.
+fn counted(length: usize) -> u64 {
+    u64::try_from(length).unwrap_or(u64::MAX)
 }
 
 // What a round came to, by what its players and nodes left.

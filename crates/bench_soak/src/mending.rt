@@ -3,7 +3,7 @@
 use crate::desk::Doing;
 use crate::figures::add;
 use crate::kind::KINDS;
-use crate::player::{NAMES, Soaker, name_of};
+use crate::player::{LAST_NAME, Soaker, name_of};
 use crate::resting::{clear_others, doze, hear, hear_others};
 use crate::thing::Thing;
 use nob_ids::SpaceId;
@@ -99,7 +99,7 @@ pub(crate) fn give_up_all<R: Wait>(soaker: &mut Soaker, rt: &R, node: &mut Node<
 fn unbind_from<R: Wait>(soaker: &mut Soaker, rt: &R, node: &mut Node<Thing>, first: u8) {
     soaker.say(rt, Doing::GivesBack);
     for kind in KINDS {
-        for place in first..NAMES {
+        for place in first..=LAST_NAME {
             if let Err(error) = node.unbind(rt, &name_of(kind, place)) {
                 soaker.figures.count_error(error);
             }

@@ -132,8 +132,8 @@ impl<'s> Player<Thing> for Soaker<'s> {
     }
 }
 
-/// So many names there are of each kind.
-pub(crate) const NAMES: u8 = 4;
+/// The names of each kind have the places from 0 to this.
+pub(crate) const LAST_NAME: u8 = 3;
 
 // The name of a kind and a place. The first of each kind stands for an own object.
 pub(crate) fn name_of(kind: Kind, place: u8) -> [u8; 2] {

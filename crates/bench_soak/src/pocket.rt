@@ -45,8 +45,7 @@ impl Pocket {
 
     // One by chance.
     pub(crate) fn any(&self, chance: &mut Chance) -> Option<&Held> {
-        let place = chance.below(self.held.len() as u64);
-        self.held.get(place as usize)
+        self.held.get(chance.place_in(self.held.len()))
     }
 
     // One by chance that is of another space, if one is found soon.
@@ -94,7 +93,7 @@ impl Pocket {
         node: &mut Node<Thing>,
         chance: &mut Chance,
     ) {
-        let place = chance.below(self.held.len() as u64) as usize;
+        let place = chance.place_in(self.held.len());
         if place < self.held.len() {
             let Held { hold, kind: _ } = self.held.swap_remove(place);
             give_back(rt, node, hold);

@@ -24,6 +24,8 @@ const LOOKS: u64 = 20_000;
 /// After so many looks it has its peers say that they are there.
 const LOOKS_A_WORD: u64 = 50;
 
+const LAST_LOOK: u64 = LOOKS_A_WORD - 1;
+
 /// So often it tries to have a table give back what it keeps.
 const TRIES: u32 = 100;
 
@@ -129,7 +131,7 @@ pub(crate) fn rest<R: Wait>(soaker: &mut Soaker, rt: &R, node: &mut Node<Thing>)
         if is_at_rest(rt, node) {
             return true;
         }
-        if look % LOOKS_A_WORD == LOOKS_A_WORD - 1 {
+        if look % LOOKS_A_WORD == LAST_LOOK {
             hear_others(soaker, rt, node);
         }
         soaker.say(rt, Doing::Rests);

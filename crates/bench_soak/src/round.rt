@@ -57,21 +57,21 @@ impl Round {
             Keep::Nothing
         };
         let mut shape = Shape::new(keep);
-        shape.workers = wished(wish.workers, &mut chance, 1, 16) as usize;
+        shape.workers = usize::from(wished(wish.workers, &mut chance, 1, 16));
         shape.loss = if chance.is_so(25) {
             0
         } else {
-            1 + chance.below(4)
+            chance.between(1, 4)
         };
         shape.seed = chance.below(1 << 32);
-        shape.pause = 1 + chance.below(8) as u32;
+        shape.pause = u32::from(chance.small_between(1, 8));
         shape.tick_every = ticks_by(&mut chance, shape);
-        shape.capacity = 1 + chance.below(64) as usize;
+        shape.capacity = usize::from(chance.small_between(1, 64));
         shape.limits = limits_by(&mut chance);
         Round {
             number,
             seed: chance.below(1 << 32),
-            spaces: spaces as u16,
+            spaces: u16::from(spaces),
             steps: wish.steps,
             closes: if chance.is_so(30) {
                 0
@@ -89,30 +89,34 @@ impl Round {
 
     // After how many parcels the links between two nodes are let go, if they are.
     pub(crate) fn cut_between(&self, one: SpaceId, other: SpaceId) -> Option<u64> {
-        let first = u64::from(one.get().min(other.get()));
-        let second = u64::from(one.get().max(other.get()));
-        let mut chance = Chance::new(self.seed, 1_000 + 100 * first + second);
+        let first = u32::from(one.get().min(other.get()));
+        let second = u32::from(one.get().max(other.get()));
+        let which = first.wrapping_mul(100).wrapping_add(second);
+        let mut chance = Chance::new(self.seed, u64::from(which));
         if !chance.is_so(self.cuts) {
             return None;
         }
-        Some(LEAST_CARRIED + chance.below(MOST_CARRIED - LEAST_CARRIED))
+        Some(chance.between(LEAST_CARRIED, MOST_CARRIED))
     }
 }
 
 // A number that is wished, or one by chance, in a range.
-fn wished(wish: u64, chance: &mut Chance, least: u64, most: u64) -> u64 {
-    let drawn = least + chance.below(most - least + 1);
+fn wished(wish: u64, chance: &mut Chance, least: u8, most: u8) -> u8 {
+    let drawn = chance.small_between(least, most);
     if wish == 0 {
-        drawn
-    } else {
-        wish.clamp(least, most)
+        return drawn;
     }
+    u8::try_from(wish).unwrap_or(most).max(least).min(most)
 }
 
 // After how many repeats a tick is made.
 fn ticks_by(chance: &mut Chance, shape: Shape) -> u32 {
-    let turns = TICK + chance.below(TICK);
-    let all = if shape.loss == 0 { turns } else { 8 * turns };
+    let turns = chance.between(TICK, TICK.saturating_mul(2));
+    let all = if shape.loss == 0 {
+        turns
+    } else {
+        turns.saturating_mul(8)
+    };
     let repeats = all.checked_div(u64::from(shape.pause)).unwrap_or(all);
     u32::try_from(repeats).unwrap_or(u32::MAX)
 }
@@ -120,6 +124,6 @@ fn ticks_by(chance: &mut Chance, shape: Shape) -> u32 {
 // The limits of all sessions.
 fn limits_by(chance: &mut Chance) -> Limits {
     let limits = Limits::default();
-    let window = 1 + chance.below(64);
+    let window = chance.between(1, 64);
     Limits::new(window, limits.retry).unwrap_or(limits)
 }

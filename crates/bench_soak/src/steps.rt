@@ -5,7 +5,7 @@ use crate::desk::Doing;
 use crate::figures::add;
 use crate::kind::{KINDS, Kind};
 use crate::mending::{close, open_anew};
-use crate::player::{NAMES, Soaker, name_of};
+use crate::player::{LAST_NAME, Soaker, name_of};
 use crate::pocket::{Held, Pocket};
 use crate::thing::Thing;
 use nob_ids::SpaceId;
@@ -79,7 +79,7 @@ fn look_up<R: Wait>(soaker: &mut Soaker, rt: &R, node: &mut Node<Thing>, pocket:
         return;
     };
     let kind = named_kind(soaker);
-    let place = soaker.chance.below(u64::from(NAMES)) as u8;
+    let place = soaker.chance.small_between(0, LAST_NAME);
     if let Some(hold) = found(soaker, rt, node, peer, &name_of(kind, place)) {
         pocket.put(rt, node, Held { hold, kind });
     }
@@ -87,7 +87,7 @@ fn look_up<R: Wait>(soaker: &mut Soaker, rt: &R, node: &mut Node<Thing>, pocket:
 
 // A kind by chance.
 fn named_kind(soaker: &mut Soaker) -> Kind {
-    let place = soaker.chance.below(KINDS.len() as u64) as usize;
+    let place = soaker.chance.place_in(KINDS.len());
     KINDS.get(place).copied().unwrap_or(Kind::Counter)
 }
 
@@ -165,8 +165,7 @@ fn unbind<R: Wait>(soaker: &mut Soaker, rt: &R, node: &mut Node<Thing>) {
 
 // A place of names by chance, but not the first.
 fn any_place(soaker: &mut Soaker) -> u8 {
-    let drawn = soaker.chance.below(u64::from(NAMES).saturating_sub(1));
-    1 + drawn as u8
+    soaker.chance.small_between(1, LAST_NAME)
 }
 
 // Closes the session with a peer by chance.
