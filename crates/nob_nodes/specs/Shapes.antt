@@ -1,5 +1,5 @@
 -- How the nodes of a program run, and of which spaces they are.
-use Rattle.std.specs.Prelude.{◌≡◌, ℕ, suc, List, [], ◌∷◌}
+use Rattle.std.specs.Prelude.{◌≡◌, ◌+◌, ℕ, List, [], ◌∷◌}
 use Rattle.nob_node_site.specs.declared.config.Config.{Config}
 use Rattle.nob_nodes.specs.declared.shape.Shape.{Shape}
 
@@ -16,4 +16,4 @@ pub record IsShaped (shape : Shape) (space count : ℕ) (config : Config) : Type
 -- nodes of the spaces from a number on, one of each, in order, and each is one of so many
 abbrev pub AreFrom : (first count : ℕ) → List Config → Type 0
 AreFrom first count [] = Unit {0}
-AreFrom first count (config ∷ configs) = (config.space ≡ first) × (config.n ≡ count) × AreFrom (suc first) count configs
+AreFrom first count (config ∷ configs) = (first ≡ config.space) × (count ≡ config.n) × AreFrom (first + 1) count configs

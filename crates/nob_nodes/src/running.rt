@@ -241,7 +241,7 @@ fn played_in<O: Object, A: Drop>(
     spaces: SpaceId,
 ) -> Option<Played<O, A>>
     ensures { IfSome result (λ played.
-        (played.config.space ≡ number) × (played.config.n ≡ spaces)) }
+        (number ≡ played.config.space) × (spaces ≡ played.config.n)) }
 {
     let Post { start: _, played } = post;
     let played = played.into_inner()?;
