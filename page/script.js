@@ -401,7 +401,7 @@ function draw() {
     const end = x(it.to), start = it.left ? end - 40 : end + 40 + columns[it.to].more, at = y(it.end), of = { 'data-of': `stray${it.number}` };
     layers.lines.push(make('line', { class: 'sent stray', ...of, x1: start, y1: at, x2: end, y2: at, 'marker-end': 'url(#red)' }),
       make('path', { class: 'cross', d: `M${start},${at - 5} l0,10` }));
-    write(layers.words, boxes, it.words, it.left, it.left ? end - 10 : end + 50 + columns[it.to].more, [at + 9], { ...of, 'data-row': it.end });
+    write(layers.words, boxes, it.words, it.left, it.left ? start - 8 : start + 8, [at + 4], { ...of, 'data-row': it.end });
   }
   picture.replaceChildren(...Object.values(layers).flat());
   part('texts').replaceChildren(texts);

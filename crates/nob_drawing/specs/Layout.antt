@@ -234,7 +234,7 @@ falling at = shapes.Line styles.Cross (record { x = at.x - 4; y = at.y - 4 }) (r
 abbrev pub rising : Point → Shape
 rising at = shapes.Line styles.Cross (record { x = at.x - 4; y = at.y + 4 }) (record { x = at.x + 4; y = at.y - 4 })
 
--- the words at an end from which they go on
+-- words that go on from a point, to the right or to the left
 abbrev pub end_words : Bool → Point → List ℕ → Shape
 end_words true end words = shapes.Text styles.Behind (record { x = end.x + 8; y = end.y + 4 }) words
 end_words false end words = shapes.Text styles.Before (record { x = end.x - 8; y = end.y + 4 }) words
@@ -281,7 +281,7 @@ arrows_words page all = map (head_words page) (filter (λ arrow. is_shown page a
 abbrev pub stray_shapes : Page → Stray → List Shape
 stray_shapes page stray =
     if is_shown page stray.row
-    then shapes.Line styles.Stray (stray_start page stray) (point_at page stray.to stray.row) ∷ void_mark (stray_start page stray) ∷ side_words page (is_from_left stray) stray.to stray.row (cut 32 (codes "from nowhere: " ++ frame_label stray.frame)) ∷ []
+    then shapes.Line styles.Stray (stray_start page stray) (point_at page stray.to stray.row) ∷ void_mark (stray_start page stray) ∷ end_words (not (is_from_left stray)) (stray_start page stray) (cut 32 (codes "from nowhere: " ++ frame_label stray.frame)) ∷ []
     else []
 
 -- how a bar is drawn

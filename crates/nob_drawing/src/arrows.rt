@@ -123,7 +123,7 @@ pub(crate) fn arrows_lines(
 }
 
 // The words at the head of what arrives on a side.
-pub(crate) fn side_words(page: &Page, is_left: bool, to: SpaceId, row: usize, words: Bytes) -> Shape
+fn side_words(page: &Page, is_left: bool, to: SpaceId, row: usize, words: Bytes) -> Shape
     ensures { result ≡ spec.side_words page.now is_left to row words }
 {
     let x = x_of(to);

@@ -91,8 +91,8 @@ fn lost_start(page: &Page, departure: &Departure) -> Point
     near_end(goes_right(departure), lost_end(page, departure))
 }
 
-// The words at an end from which they go on.
-fn end_words(right: bool, end: Point, words: Bytes) -> Shape
+// Words that go on from a point, to the right or to the left.
+pub(crate) fn end_words(right: bool, end: Point, words: Bytes) -> Shape
     requires across { (140 ≤ end.x) × (end.x < 2 ^ 15) }
     requires down { end.y < 2 ^ 71 }
     ensures { result ≡ spec.end_words right end words }

@@ -4,9 +4,9 @@ ghost use Rattle.std.specs.Prelude.{◌≡◌, ◌++◌, ◌^◌, ◌<◌, ◌�
 ghost use Rattle.nob_drawing.specs.Words.{cut, frame_label as label_of};
 ghost use Rattle.nob_drawing.specs.Layout as spec;
 
-use crate::arrows::side_words;
 use crate::frame_labels::frame_label;
 use crate::labels::cut_bytes;
+use crate::losses::end_words;
 use crate::page::Page;
 use crate::places::{is_shown, point_at, x_of, y_of};
 use crate::{Point, Shape, Style};
@@ -25,7 +25,8 @@ fn is_from_left(stray: &Stray) -> bool
 // How far to the right it begins.
 fn stray_x(left: bool, x: u128) -> u128
     requires { (500 ≤ x) × (x < 2 ^ 14) }
-    ensures { result ≡ spec.stray_x left x }
+    ensures place { result ≡ spec.stray_x left x }
+    ensures bound { (140 ≤ result) × (result < 2 ^ 15) }
 {
     if left {
         return x - 40;
@@ -36,6 +37,7 @@ fn stray_x(left: bool, x: u128) -> u128
 // Where it begins.
 fn stray_start(page: &Page, stray: &Stray) -> Point
     ensures place { result ≡ spec.stray_start page.now stray.now }
+    ensures across { (140 ≤ result.x) × (result.x < 2 ^ 15) }
     ensures down { (120 ≤ result.y) × (result.y < 2 ^ 70) }
 {
     let y = y_of(page, stray.row as u128);
@@ -85,7 +87,7 @@ fn stray_shapes(alloc: Global, page: &Page, stray: &Stray) -> Result<Vec<Shape>,
     let label = stray_label(alloc, &stray.frame)?;
     shapes.push(Shape::Line(Style::Stray, start, end))?;
     shapes.push(void_mark(start))?;
-    shapes.push(side_words(page, is_from_left(stray), stray.to, stray.row, label))?;
+    shapes.push(end_words(!is_from_left(stray), start, label))?;
     Ok(shapes)
 }
 

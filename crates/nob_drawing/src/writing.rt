@@ -56,7 +56,7 @@ rect.fault { stroke: #d00000; stroke-width: 6; }
 <rect class='refused' x='12' y='76' width='6' height='6'/><text class='refused' x='24' y='82'>refused</text>
 <rect class='closing' x='82' y='76' width='6' height='6'/><text class='closing' x='96' y='82'>closes a session</text>
 <rect class='fault' x='214' y='76' width='6' height='6'/><text class='fault' x='228' y='82'>wrong</text>
-<text class='words' x='274' y='82'>thin: given before, grey: took nothing, dotted: in part, cross: lost</text>
+<text class='words' x='274' y='82'>thin: given before, grey: took nothing, dotted: in part, cross: lost, red: from nowhere</text>
 ";
 
 // The name of a style.

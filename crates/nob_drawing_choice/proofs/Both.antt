@@ -1,20 +1,18 @@
 -- Both ends of a frame that is part of a choice are part of it, and so are the rows at which the bars of a life begin and end.
-use Rattle.std.proofs.Common.{◌≡◌, ◌∙◌, ℕ, suc, zero, ◌<◌, Bool, true, false, ◌||◌, List, [], ◌∷◌, ◌++◌, length, flat_map, Option, Some, None, Result, Ok, Err, refl, sym, ap, subst, arith}
+use Rattle.std.proofs.Common.{◌≡◌, ◌∙◌, ℕ, ◌<◌, Bool, true, false, ◌||◌, List, [], ◌∷◌, ◌++◌, flat_map, Result, Ok, refl, sym, ap, subst, arith}
+use Prim.Native.Nat.{zero, suc}
 use Rattle.std.specs.List.{list_any, Contains}
-use Rattle.nob_ids.specs.declared.wire_rep.WireRep.{WireRep}
 use Rattle.nob_frame.specs.declared.frame.Frame.{Frame}
 use Rattle.nob_model_types.specs.declared.event.Event.{Event}
-use Rattle.nob_model_types.specs.declared.event.Event.TheVariants as events
+use Rattle.nob_model_types.specs.declared.event.Event.TheVariants.{Arrive}
 use Rattle.nob_model_types.specs.declared.answer.Answer.{Answer}
-use Rattle.nob_model_types.specs.declared.answer.Answer.TheVariants as answers
+use Rattle.nob_model_types.specs.declared.answer.Answer.TheVariants.{Frames}
 use Rattle.nob_model_types.specs.declared.refusal.Refusal.{Refusal}
 use Rattle.nob_model_types.specs.declared.entry.Entry.{Entry}
-use Rattle.nob_model_types.specs.Deeds.{deed_of, deed_by, deed_in}
-use Rattle.nob_model_journal.specs.Journals.{frames_of}
 use Rattle.nob_drawing_plan.specs.declared.bar.Bar.{Bar}
 use Rattle.nob_drawing_choice.specs.declared.choice.Choice.{Choice}
-use Rattle.nob_drawing_choice.specs.Naming.{names_of_frame, names_of_event, names_of_answer, names_of_result, names_in}
-use Rattle.nob_drawing_choice.specs.Choices.{is_asked, is_subject, is_in_life, is_in_part, is_with, brings, gives, turns_at}
+use Rattle.nob_drawing_choice.specs.Naming.{names_of_frame, names_of_event, names_of_result}
+use Rattle.nob_drawing_choice.specs.Choices.{is_subject, is_with, brings, gives, turns_at}
 use Rattle.nob_drawing_choice.specs.Laws.{IsOfChoice, IsIn, BothEndsAreIn, TurnsAreIn}
 
 -- ---- tests
@@ -47,22 +45,25 @@ any_flat p f [] x there e = let none : there.0 < 0 = there.1 in absurd (omega ar
 any_flat p f (y ∷ xs) x (zero, less, is) e = any_left p (f y) (flat_map f xs) (ap (λ y. list_any p (f y)) is ∙ e)
 any_flat p f (y ∷ xs) x (suc k, less, is) e = any_right p (f y) (flat_map f xs) (any_flat p f xs x (k, omega (arith, less), is) e)
 
--- ---- the frames that an entry gave
-
-none_given : {X : Type 0} (x : X) → Contains [] x → ⊥
-none_given x there = let none : there.0 < 0 = there.1 in omega (arith, none)
-
--- an entry that gave a frame was answered with it
-abbrev GaveIt : Result Answer Refusal → Frame → Type 0
-GaveIt (Ok (answers.Frames frames)) frame = Contains frames frame
-GaveIt _ frame = ⊥
-
-gave : (event : Event) (result : Result Answer Refusal) (frame : Frame) → Contains (frames_of (deed_by event result)) frame → GaveIt result frame
-gave event (Err refusal) frame there = none_given frame there
-gave event (Ok answer) frame there = ?
+-- ---- the laws
 
 pub turns_are_in : TurnsAreIn
 turns_are_in choice own bar row entry there turns = or_right _ _ (any_of (turns_at row) own bar there turns)
 
+arrives_in : (choice : Choice) (own : List Bar) (row : ℕ) (entry : Entry) (frame : Frame) → IsOfChoice choice frame → entry.event ≡ Arrive frame → IsIn choice own row entry
+arrives_in choice own row entry frame of is = record {
+  life = or_left _ _ (any_left (is_subject choice) (names_of_event entry.space entry.event) (names_of_result entry.space entry.result)
+      (subst (λ (event : Event). list_any (is_subject choice) (names_of_event entry.space event) ≡ true) (sym is) of.named));
+  part = or_right _ _ (or_left _ _ (subst (λ (event : Event). brings choice event ≡ true) (sym is) of.with));
+}
+
+given_in : (choice : Choice) (own : List Bar) (row : ℕ) (entry : Entry) (frame : Frame) (frames : List Frame) → IsOfChoice choice frame → entry.result ≡ Ok (Frames frames) → Contains frames frame → IsIn choice own row entry
+given_in choice own row entry frame frames of is there = record {
+  life = or_left _ _ (any_right (is_subject choice) (names_of_event entry.space entry.event) (names_of_result entry.space entry.result)
+      (subst (λ (result : Result Answer Refusal). list_any (is_subject choice) (names_of_result entry.space result) ≡ true) (sym is)
+      (any_flat (is_subject choice) names_of_frame frames frame there of.named)));
+  part = or_right _ _ (or_right _ _ (subst (λ (result : Result Answer Refusal). gives choice result ≡ true) (sym is) (any_of (is_with choice) frames frame there of.with)));
+}
+
 pub both_ends_are_in : BothEndsAreIn
-both_ends_are_in = ?
+both_ends_are_in = record { arrives = arrives_in; given = given_in }

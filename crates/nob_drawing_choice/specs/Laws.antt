@@ -1,11 +1,10 @@
 -- What is true of every choice.
-use Rattle.std.specs.Prelude.{◌≡◌, ℕ, true, List, ◌∷◌, ◌++◌, Option}
+use Rattle.std.specs.Prelude.{◌≡◌, ℕ, true, List, Ok}
 use Rattle.std.specs.List.{list_any, Contains}
 use Rattle.nob_frame.specs.declared.frame.Frame.{Frame}
 use Rattle.nob_model_types.specs.declared.event.Event.TheVariants.{Arrive}
 use Rattle.nob_model_types.specs.declared.entry.Entry.{Entry}
-use Rattle.nob_model_types.specs.Deeds.{deed_in}
-use Rattle.nob_model_journal.specs.Journals.{frames_of}
+use Rattle.nob_model_types.specs.declared.answer.Answer.TheVariants.{Frames}
 use Rattle.nob_drawing_plan.specs.declared.bar.Bar.{Bar}
 use Rattle.nob_drawing_choice.specs.declared.choice.Choice.{Choice}
 use Rattle.nob_drawing_choice.specs.Naming.{names_of_frame}
@@ -25,7 +24,7 @@ pub record IsIn (choice : Choice) (own : List Bar) (row : ℕ) (entry : Entry) :
 abbrev pub TurnsAreIn : Type 0
 TurnsAreIn = (choice : Choice) (own : List Bar) (bar : Bar) (row : ℕ) (entry : Entry) → Contains own bar → turns_at row bar ≡ true → is_in_life choice own row entry ≡ true
 
--- of a frame that is part of a choice, the entry by which it arrives and each that gave it are part of it, too
+-- of a frame that is part of a choice, the entry by which it arrives and each whose answer gave it are part of it, too
 pub record BothEndsAreIn : Type 0 where
   pub arrives : (choice : Choice) (own : List Bar) (row : ℕ) (entry : Entry) (frame : Frame) → IsOfChoice choice frame → entry.event ≡ Arrive frame → IsIn choice own row entry
-  pub given : (choice : Choice) (own : List Bar) (row : ℕ) (entry : Entry) (frame : Frame) → IsOfChoice choice frame → Contains (frames_of (deed_in entry)) frame → IsIn choice own row entry
+  pub given : (choice : Choice) (own : List Bar) (row : ℕ) (entry : Entry) (frame : Frame) (frames : List Frame) → IsOfChoice choice frame → entry.result ≡ Ok (Frames frames) → Contains frames frame → IsIn choice own row entry
