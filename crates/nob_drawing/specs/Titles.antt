@@ -11,7 +11,7 @@ counted number one many = decimal number ++ 32 ∷ (if number == 1 then one else
 abbrev pub verdict_words : (accepted : Bool) → Option ℕ → List ℕ
 verdict_words true fault = codes "accepted"
 verdict_words false None = codes "not accepted"
-verdict_words false (Some row) = codes "not accepted: row " ++ (decimal row ++ codes " is wrong")
+verdict_words false (Some row) = codes "not accepted: number " ++ (decimal row ++ codes " is wrong")
 
 -- of which run it is
 abbrev pub title_words : Page → List ℕ

@@ -29,7 +29,7 @@ fn verdict_words(alloc: Global, accepted: bool, fault: Option<usize>) -> Result<
     }
     match fault {
         None => String::from_str(alloc, "not accepted"),
-        Some(row) => format!(in alloc; "not accepted: row {row} is wrong"),
+        Some(row) => format!(in alloc; "not accepted: number {row} is wrong"),
     }
 }
 
