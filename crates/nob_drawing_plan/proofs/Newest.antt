@@ -51,9 +51,8 @@ passed_back frame xs back x less is so_far other =
     ∙ so_far
 
 -- the departures, the arrows and the arrivals without an origin with those of one entry more
-pub flights_next : (entry : Entry) (J more : List Entry) (row : ℕ) (D : List Departure) (A all : List Arrow) (S others : List Stray) (after : List Departure) → more ≡ entry ∷ J → row ≡ row_after J
+pub flights_next : (entry : Entry) (J more : List Entry) (at : ℕ) (D : List Departure) (A all : List Arrow) (S others : List Stray) (after : List Departure) → more ≡ entry ∷ J → at ≡ row_after J
     → (D ≡ spec.departures J) × (A ≡ spec.arrows J) × (S ≡ spec.strays J)
-    → all ≡ A ++ spec.arrow_of entry.space row entry.event entry.result D → others ≡ S ++ spec.stray_of entry.space row entry.event D
-    → after ≡ spec.with_departures entry.space row 0 (frames_of (deed_in entry)) D
-    → (after ≡ spec.departures more) × (all ≡ spec.arrows more) × (others ≡ spec.strays more)
-flights_next entry J more row D A all S others after is place (given_are, arrows_are, strays_are) with_arrow with_stray with_given = rw (is, with_given, with_arrow, with_stray, place, given_are, arrows_are, strays_are) (refl, refl, refl)
+    → all ≡ A ++ spec.arrow_of entry.space at entry.event entry.result D → others ≡ S ++ spec.stray_of entry.space at entry.event D
+    → after ≡ spec.with_departures entry.space at 0 (frames_of (deed_in entry)) D → (after ≡ spec.departures more) × (all ≡ spec.arrows more) × (others ≡ spec.strays more)
+flights_next entry J more at D A all S others after is place (given_are, arrows_are, strays_are) with_arrow with_stray with_given = rw (is, with_given, with_arrow, with_stray, place, given_are, arrows_are, strays_are) (refl, refl, refl)
