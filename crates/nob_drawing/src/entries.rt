@@ -1,6 +1,6 @@
 //! Lifelines, and the entries on them.
 
-ghost use Rattle.std.specs.Prelude.{◌≡◌, ◌<◌, ◌+◌, ◌^◌, IfOk};
+ghost use Rattle.std.specs.Prelude.{◌≡◌, ◌<◌, ◌+◌, ◌^◌, ◌++◌, IfOk};
 ghost use Rattle.std.specs.String.{string_bytes};
 ghost use Rattle.nob_drawing.specs.Layout as spec;
 
@@ -217,6 +217,23 @@ fn entry_at(
     entry_shapes(alloc, page, row, number, entry)
 }
 
+// Shapes with those of the entry of a number, where it has a row that is shown.
+fn with_entry(
+    alloc: Global,
+    page: &Page,
+    row: Option<usize>,
+    number: usize,
+    entry: &Entry,
+    mut shapes: Vec<Shape>,
+) -> Result<Vec<Shape>, AllocError>
+    ensures { IfOk result (λ all. all.items
+        ≡ shapes.items ++ spec.entry_at page.now row number entry.now) }
+{
+    let mut more = entry_at(alloc, page, row, number, entry)?;
+    shapes.append(&mut more)?;
+    Ok(shapes)
+}
+
 // The entries of a journal that are shown, the rows of which are these.
 pub(crate) fn entries_shapes(
     alloc: Global,
@@ -231,8 +248,8 @@ pub(crate) fn entries_shapes(
     for passed in 0..journal.len() {
         let entry = &journal[journal.len() - 1 - passed];
         let number = passed + 1;
-        let mut more = entry_at(alloc, page, place_of(places, number), number, entry)?;
-        shapes.append(&mut more)?;
+        let row = place_of(places, number);
+        shapes = with_entry(alloc, page, row, number, entry, shapes)?;
     }
     Ok(shapes)
 }

@@ -54,7 +54,7 @@ arrives_in : (choice : Choice) (own : List Bar) (row : ℕ) (entry : Entry) (fra
 arrives_in choice own row entry frame of is = record {
   life = or_left _ _ (any_left (is_subject choice) (names_of_event entry.space entry.event) (names_of_result entry.space entry.result)
       (subst (λ (event : Event). list_any (is_subject choice) (names_of_event entry.space event) ≡ true) (sym is) of.named));
-  part = or_right _ _ (or_left _ _ (subst (λ (event : Event). brings choice event ≡ true) (sym is) of.with));
+  part = or_right _ _ (or_left _ _ (subst (λ (event : Event). brings choice event ≡ true) (sym is) of.goes));
 }
 
 given_in : (choice : Choice) (own : List Bar) (row : ℕ) (entry : Entry) (frame : Frame) (frames : List Frame) → IsOfChoice choice frame → entry.result ≡ Ok (Frames frames) → Contains frames frame → IsIn choice own row entry
@@ -62,7 +62,7 @@ given_in choice own row entry frame frames of is there = record {
   life = or_left _ _ (any_right (is_subject choice) (names_of_event entry.space entry.event) (names_of_result entry.space entry.result)
       (subst (λ (result : Result Answer Refusal). list_any (is_subject choice) (names_of_result entry.space result) ≡ true) (sym is)
       (any_flat (is_subject choice) names_of_frame frames frame there of.named)));
-  part = or_right _ _ (or_right _ _ (subst (λ (result : Result Answer Refusal). gives choice result ≡ true) (sym is) (any_of (is_with choice) frames frame there of.with)));
+  part = or_right _ _ (or_right _ _ (subst (λ (result : Result Answer Refusal). gives choice result ≡ true) (sym is) (any_of (is_with choice) frames frame there of.goes)));
 }
 
 pub both_ends_are_in : BothEndsAreIn

@@ -13,7 +13,7 @@ use Rattle.nob_drawing_choice.specs.Choices.{is_subject, is_in_life, is_in_part,
 -- whether a frame is part of a choice: it names the reference whose life is asked for, and is from or to the space
 pub record IsOfChoice (choice : Choice) (frame : Frame) : Type 0 where
   pub named : list_any (is_subject choice) (names_of_frame frame) ≡ true
-  pub with : is_with choice frame ≡ true
+  pub goes : is_with choice frame ≡ true
 
 -- the entry at a row is part of the life and of the space that are asked for
 pub record IsIn (choice : Choice) (own : List Bar) (row : ℕ) (entry : Entry) : Type 0 where

@@ -18,10 +18,13 @@ use std::alloc::{AllocError, Global};
 pub(crate) fn bars_of(alloc: Global, choice: &Choice, bars: &[Bar]) -> Result<Vec<Bar>, AllocError>
     ensures { IfOk result (λ own. own.items ≡ spec.bars_of choice.now bars.now) }
 {
-    bars.iter()
-        .filter(|bar| is_subject(choice, subject_of(bar.mark)))
-        .copied()
-        .collect(alloc)
+    let mut own = Vec::new(alloc);
+    for bar in bars {
+        if is_subject(choice, subject_of(bar.mark)) {
+            own.push(*bar)?;
+        }
+    }
+    Ok(own)
 }
 
 // Whether a row is the one at which a bar ends, if it does.
@@ -172,7 +175,10 @@ fn is_chosen(
     if is_wrong(fault, row) {
         return Ok(true);
     }
-    if !is_in_part(choice, entry) || choice.brief && is_small(&entry.event, &entry.result) {
+    if !is_in_part(choice, entry) {
+        return Ok(false);
+    }
+    if choice.brief && is_small(&entry.event, &entry.result) {
         return Ok(false);
     }
     if !has_subject(choice) {
@@ -218,9 +224,9 @@ pub(crate) fn places(
     for passed in 0..journal.len() {
         let entry = &journal[journal.len() - 1 - passed];
         let chosen = is_chosen(alloc, choice, fault, own, passed + 1, entry)?;
-        let (more, with) = with_place(chosen, count, all)?;
+        let (more, longer) = with_place(chosen, count, all)?;
         count = more;
-        all = with;
+        all = longer;
     }
     Ok(all)
 }
