@@ -6,7 +6,7 @@ ghost use Rattle.nob_demo_traces.specs.Draws as spec;
 use crate::drawing::Part;
 use crate::place::row_of;
 use nob_drawing::{Page, drawing, height_of, svg_text, width_of};
-use nob_drawing_choice::{count_drawn, plan};
+use nob_drawing_choice::{count_drawn, plan_of};
 use nob_model_traces::WrongEntry;
 use nob_model_types::Entry;
 use std::alloc::{AllocError, Global};
@@ -48,7 +48,7 @@ fn svg_of(
 ) -> Result<Vec<u8>, AllocError>
     ensures { IfOk result (λ text. text.items ≡ spec.svg_of n part accepted fault journal.now) }
 {
-    let plan = plan(alloc, n, &part.choice, fault, journal)?;
+    let plan = plan_of(alloc, n, &part.choice, fault, journal)?;
     let page = page_of(n, part, accepted, fault, plan.places.as_slice(), journal);
     let shapes = drawing(alloc, &page, &plan, journal)?;
     svg_text(alloc, width_of(&page), height_of(&page), shapes.as_slice())

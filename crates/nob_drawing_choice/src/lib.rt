@@ -9,4 +9,4 @@ mod naming;
 mod plan;
 
 pub use choice::Choice;
-pub use plan::{Plan, count_drawn, place_of, plan};
+pub use plan::{Plan, count_drawn, place_of, plan_of};

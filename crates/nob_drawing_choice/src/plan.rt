@@ -215,7 +215,7 @@ fn bars_drawn(
 /// What is drawn of a journal of so many spaces, the newest entry of which stands first, where the
 /// entry at a row is wrong. It costs what the plan costs, and then a step for each part of it; for
 /// a life, also a step for each of its bars at each entry that doesn't name its reference.
-pub fn plan(
+pub fn plan_of(
     alloc: Global,
     n: u16,
     choice: &Choice,

@@ -75,7 +75,7 @@ pub struct Stray {
 
 /// The frames of a journal.
 #[derive(Debug, Drop)]
-pub struct Flights {
+pub struct Flown {
     /// Those that Transmits gave.
     pub departures: Vec<Departure>,
     /// An arrow for each that arrives, from the newest Transmit before it that gave it.
@@ -216,7 +216,7 @@ fn with_arrival(
 /// Transmit before it that gave its frame, and the Arrives of which none did. The newest entry
 /// stands first, rows count from the oldest. At each arrival all frames that were given are looked
 /// through.
-pub fn flights(alloc: Global, journal: &[Entry]) -> Result<Flights, AllocError>
+pub fn flights(alloc: Global, journal: &[Entry]) -> Result<Flown, AllocError>
     ensures departures { IfOk result (λ found. found.departures.items
         ≡ spec.departures journal.now) }
     ensures arrows { IfOk result (λ found. found.arrows.items ≡ spec.arrows journal.now) }
@@ -233,7 +233,7 @@ pub fn flights(alloc: Global, journal: &[Entry]) -> Result<Flights, AllocError>
         strays = others;
         departures = with_departures(entry.space, row, 0, frames_of(entry), departures)?;
     }
-    Ok(Flights {
+    Ok(Flown {
         departures,
         arrows,
         strays,

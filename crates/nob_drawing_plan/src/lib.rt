@@ -12,6 +12,6 @@ mod passing;
 mod steps;
 
 pub use bar::{Bar, bars};
-pub use flight::{Arrow, Departure, Flights, Stray, flights, lost};
+pub use flight::{Arrow, Departure, Flown, Stray, flights, lost};
 pub use mark::Mark;
 pub use marks::marks_at;
