@@ -1,5 +1,5 @@
 -- Both ends of a frame that is part of a choice are part of it, and so are the rows at which the bars of a life begin and end.
-use Rattle.std.proofs.Common.{◌≡◌, ◌∙◌, ℕ, ◌<◌, Bool, true, false, ◌||◌, List, [], ◌∷◌, ◌++◌, flat_map, Result, Ok, refl, sym, ap, subst, arith}
+use Rattle.std.proofs.Common.{◌≡◌, ◌∙◌, ℕ, ◌<◌, Bool, true, false, ◌||◌, List, [], ◌∷◌, ◌++◌, flat_map, Result, Ok, refl, sym, ap, subst, arith, true≢false}
 use Prim.Native.Nat.{zero, suc}
 use Rattle.std.specs.List.{list_any, Contains}
 use Rattle.nob_frame.specs.declared.frame.Frame.{Frame}
@@ -19,12 +19,14 @@ use Rattle.nob_drawing_choice.specs.Laws.{IsOfChoice, IsIn, BothEndsAreIn, Turns
 
 or_left : (a b : Bool) → a ≡ true → (a || b) ≡ true
 or_left true b e = refl
+or_left false b e = absurd (true≢false (sym e))
 
 or_right : (a b : Bool) → b ≡ true → (a || b) ≡ true
 or_right true b e = refl
 or_right false b e = e
 
 any_left : {X : Type 0} (p : X → Bool) (xs ys : List X) → list_any p xs ≡ true → list_any p (xs ++ ys) ≡ true
+any_left p [] ys e = absurd (true≢false (sym e))
 any_left p (x ∷ xs) ys e = by (p x) e
   where
     by : (b : Bool) → (b || list_any p xs) ≡ true → (b || list_any p (xs ++ ys)) ≡ true

@@ -4,7 +4,7 @@ ghost use Rattle.std.specs.Prelude.{◌≡◌, ◌++◌, IfOk, flat_map};
 ghost use Rattle.nob_model_types.specs.Sessions.{item_spelt as item_spelt_of};
 ghost use Rattle.nob_pickle.specs.Spelling.{refs_in};
 ghost use Rattle.nob_ids.specs.declared.wire_rep.WireRep.{WireRep as Rep};
-ghost use Rattle.std.specs.Prelude.{◌∷◌};
+ghost use Rattle.std.specs.Prelude.{◌∷◌, []};
 ghost use Rattle.nob_drawing_choice.specs.Naming as spec;
 
 use nob_frame::{Frame, FrameKind};
