@@ -27,11 +27,11 @@ or_right false b e = e
 
 any_left : {X : Type 0} (p : X → Bool) (xs ys : List X) → list_any p xs ≡ true → list_any p (xs ++ ys) ≡ true
 any_left p [] ys e = absurd (true≢false (sym e))
-any_left p (x ∷ xs) ys e = by (p x) e
+any_left p (x ∷ xs) ys e = by (p x) (any_left p xs ys) e
   where
-    by : (b : Bool) → (b || list_any p xs) ≡ true → (b || list_any p (xs ++ ys)) ≡ true
-    by true e = refl
-    by false e = any_left p xs ys e
+    by : (b : Bool) → (list_any p xs ≡ true → list_any p (xs ++ ys) ≡ true) → (b || list_any p xs) ≡ true → (b || list_any p (xs ++ ys)) ≡ true
+    by true rest e = refl
+    by false rest e = rest e
 
 any_right : {X : Type 0} (p : X → Bool) (xs ys : List X) → list_any p ys ≡ true → list_any p (xs ++ ys) ≡ true
 any_right p [] ys e = e
