@@ -1,0 +1,2 @@
+pub use Rattle.nob_model_watch.specs.Next
+pub mod Reruns
