@@ -390,7 +390,6 @@ fn a_session_is_opened_anew_and_the_trace_says_so() {
     );
 }
 
-// The texts are those of the proved crates.
 // A library of another version can't be linked here: so only what is said of one.
 #[test]
 fn a_library_of_another_version_is_said_to_be_that() {
@@ -400,6 +399,7 @@ fn a_library_of_another_version_is_said_to_be_that() {
     assert_eq!(masttomato_sys::version(), masttomato_sys::VERSION);
 }
 
+// The texts are those of the proved crates.
 #[test]
 fn refusals_have_the_texts_of_the_proved_crates() {
     let sources = ["nob_model_types/src/refusal", "nob_pickle/src/fault", "nob_frame/src/fault"];
