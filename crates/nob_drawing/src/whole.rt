@@ -19,14 +19,15 @@ pub fn drawing(alloc: Global, page: &Page, journal: &[Entry]) -> Result<Vec<Shap
     ensures { IfOk result (λ shapes. shapes.items ≡ spec.drawing page.now journal.now) }
 {
     let held = bars(alloc, page.n, journal)?;
-    let (departures, arrows) = flights(alloc, journal)?;
-    let losses = lost(alloc, arrows.as_slice(), departures.as_slice())?;
+    let flown = flights(alloc, journal)?;
+    let arrows = flown.arrows.as_slice();
+    let losses = lost(alloc, arrows, flown.departures.as_slice())?;
     let mut shapes = lives_from(alloc, page, 1, u32::from(page.n))?;
     let mut entries = entries_shapes(alloc, page, journal)?;
     let mut held = bars_shapes(alloc, page, held.as_slice())?;
-    let mut lines = arrows_lines(alloc, page, arrows.as_slice())?;
+    let mut lines = arrows_lines(alloc, page, arrows)?;
     let mut losses = losses_shapes(alloc, page, losses.as_slice())?;
-    let mut words = arrows_words(alloc, page, arrows.as_slice())?;
+    let mut words = arrows_words(alloc, page, arrows)?;
     losses.append(&mut words)?;
     lines.append(&mut losses)?;
     held.append(&mut lines)?;
