@@ -1,8 +1,8 @@
 //! Calls of one keeper by several threads.
 
 use nob_ids::{Limits, SpaceId, WireRep};
-use nob_keeper::{Keeper, Seat};
-use nob_model_types::{Answer, Event};
+use nob_keeper::{ExportAnswer, Keeper, Seat};
+use nob_model_types::Event;
 use nob_space::Space;
 use std::alloc::Global;
 use std::sync::Wait;
@@ -99,9 +99,6 @@ fn is_answered<R: Wait>(rt: &R, keeper: &Keeper, seat: &mut Seat, event: &Event)
 // The index of a new object.
 fn exported<R: Wait>(rt: &R, keeper: &Keeper) -> Option<u64> {
     let mut seat = keeper.seat();
-    keeper.call(rt, &mut seat, &Event::Export, 0).ok()?;
-    match &seat.newest()?.result {
-        Ok(Answer::Exported(rep)) => Some(rep.index),
-        _ => None,
-    }
+    let ExportAnswer(rep) = keeper.ask(rt, &mut seat, &Event::Export, 0).ok()?.ok()?;
+    Some(rep.index)
 }

@@ -3,11 +3,11 @@ use Rattle.std.proofs.Common.{◌≡◌, ℕ, Bool, true, false, ◌||◌, ◌&&
 use Rattle.nob_model.specs.Next.{can_claim, reply_ready}
 use Rattle.nob_keeper.specs.declared.desk.Desk.{Desk}
 use Rattle.nob_keeper.specs.declared.held.Notice.{Notice}
-use Rattle.nob_keeper.specs.declared.receipt.Receipt.{Receipt}
+use Rattle.nob_kept.specs.declared.receipt.Receipt.{Receipt}
 use Rattle.nob_keeper.specs.declared.waking.Prospects.{Prospects}
 use Rattle.nob_keeper.specs.declared.waking.Wakes.{Wakes}
 use Rattle.nob_keeper.specs.declared.waking.WorkKind.TheVariants as kinds
-use Rattle.nob_keeper.specs.Accounts.{Account, history_in, is_full, with_noted}
+use Rattle.nob_kept.specs.Accounts.{Account, history_in, is_full, with_noted}
 use Rattle.nob_keeper.specs.Desks.{AreMarked, IsNotice, is_parked}
 use Rattle.nob_keeper.specs.Waking.{AreProspects, AreProspectsBehind, all_wakes, can_care, wakes_by}
 use Rattle.nob_keeper.proofs.Marked.{all_marked}

@@ -1,12 +1,4 @@
-pub mod Staying
-pub mod Accounts
-pub mod Segments
-pub mod Trails
-pub mod Seats
-pub mod Newest
-pub mod Spots
-pub mod Marks
 pub mod Crossing
-pub mod Summaries
+pub mod Blanks
 pub mod Desks
 pub mod Marked

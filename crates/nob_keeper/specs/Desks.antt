@@ -5,13 +5,13 @@ use Rattle.nob_model.specs.Next.{can_claim, reply_ready}
 use Rattle.nob_keeper.specs.declared.desk.Desk.{Desk}
 use Rattle.nob_keeper.specs.declared.desk.Watch.{Watch}
 use Rattle.nob_keeper.specs.declared.held.Notice.{Notice}
-use Rattle.nob_keeper.specs.declared.receipt.Receipt.{Receipt}
+use Rattle.nob_kept.specs.declared.receipt.Receipt.{Receipt}
 use Rattle.nob_keeper.specs.declared.waking.Wakes.{Wakes}
 use Rattle.nob_keeper.specs.declared.waking.WorkKind.{WorkKind}
 use Rattle.nob_keeper.specs.declared.waking.WorkKind.TheVariants as kinds
-use Rattle.nob_keeper.specs.Accounts.{Account, history_in, is_full}
-use Rattle.nob_keeper.specs.Seats.{newest}
-use Rattle.nob_keeper.specs.Staying.{IsAmong}
+use Rattle.nob_kept.specs.Accounts.{Account, history_in, is_full}
+use Rattle.nob_kept.specs.Seats.{newest}
+use Rattle.nob_kept.specs.Staying.{IsAmong}
 use Rattle.nob_keeper.specs.Waking.{AreProspectsBehind, can_care, wakes_by}
 
 -- what a desk knows of a kind of work

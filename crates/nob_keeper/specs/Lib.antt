@@ -1,10 +1,9 @@
-pub mod Staying
-pub mod Accounts
-pub mod Segments
-pub mod Spots
-pub mod Receipts
-pub mod Seats
-pub mod Closing
+pub use Rattle.nob_kept.specs.Accounts
+pub use Rattle.nob_kept.specs.Segments
+pub use Rattle.nob_kept.specs.Receipts
+pub use Rattle.nob_kept.specs.Kinds
+pub use Rattle.nob_kept.specs.Seats
+pub use Rattle.nob_kept.specs.Closing
+pub use Rattle.nob_kept.specs.Summaries
 pub mod Waking
 pub mod Desks
-pub mod Summaries

@@ -1,5 +1,5 @@
 -- What an answered event may have made possible at its space, and what there is to take care of.
-use Rattle.std.specs.Prelude.{◌≡◌, ◌↔◌, ◌≤◌, ◌⊎◌, ℕ, ◌%◌, Bool, true, false, ◌||◌, ◌&&◌, Result, Ok, Err, Some, is_some, slice_get, if◌then◌else◌}
+use Rattle.std.specs.Prelude.{◌≡◌, ◌↔◌, ◌≤◌, ◌⊎◌, ℕ, ◌%◌, Bool, true, false, ◌||◌, ◌&&◌, List, Result, Ok, Err, Some, is_some, slice_get, if◌then◌else◌}
 use Rattle.std.specs.List.{Contains}
 use Rattle.nob_model_types.specs.declared.event.Event.{Event}
 use Rattle.nob_model_types.specs.declared.event.Event.TheVariants as events
@@ -11,8 +11,12 @@ use Rattle.nob_model.specs.Next.{can_settle, can_clean, can_claim, to_withdraw, 
 use Rattle.nob_session.specs.declared.due.Due.{Due}
 use Rattle.nob_session.specs.declared.due.Due.TheVariants as dues
 use Rattle.nob_space_state.specs.Dues.{due}
-use Rattle.nob_keeper.specs.Accounts.{Account, history_in, is_full}
-use Rattle.nob_keeper.specs.declared.receipt.Receipt.{Receipt}
+use Rattle.nob_kept.specs.Accounts.{Account, history_in, identity_of, is_full, with_next}
+use Rattle.nob_kept.specs.Kinds.{is_closing}
+use Rattle.nob_kept.specs.Receipts.{entry_of}
+use Rattle.nob_kept.specs.Seats.{AddsNextOf}
+use Rattle.nob_kept.specs.declared.identity.Identity.{Identity}
+use Rattle.nob_kept.specs.declared.receipt.Receipt.{Receipt}
 use Rattle.nob_keeper.specs.declared.waking.Prospects.{Prospects}
 use Rattle.nob_keeper.specs.declared.waking.Wakes.{Wakes}
 
@@ -33,11 +37,6 @@ is_new_to account peer = is_new (due account.id account.n peer account.limits.wi
 -- a Transmit to some space would give something that was never given
 abbrev pub HasNew : Account → Type 0
 HasNew account = (peer : ℕ) × (1 ≤ peer) × (peer ≤ account.n) × (is_new_to account peer ≡ true)
-
--- whether an answer says that a session closed
-abbrev pub is_closing : Answer → Bool
-is_closing (answers.Closed reason) = true
-is_closing (_) = false
 
 -- whether there may be more to transmit: an event handed an item on or closed a session, or a frame came, which may want an Ack or make room
 abbrev pub may_send : Event → Answer → Bool
@@ -108,3 +107,11 @@ pub record AreProspects (account : Account) (wakes : Wakes) (prospects : Prospec
 -- the same of what the newest entry of an account may have made possible, of which this receipt tells
 abbrev pub AreProspectsBehind : Account → Receipt → Prospects → Type 0
 AreProspectsBehind account receipt prospects = AreProspects account (wakes_behind account receipt) prospects
+
+-- the receipt that was added is that of the next entry of this space, and right behind that entry there was just so much of what it may have made possible
+abbrev pub AddsAndOpens : Identity → List Receipt → List Receipt → Event → ℕ → Prospects → Type 0
+AddsAndOpens identity old new event seen prospects =
+    (account : Account) × (receipt : Receipt)
+    × (identity_of account ≡ identity)
+    × AddsNextOf account receipt old new event seen
+    × AreProspectsBehind (with_next account (entry_of receipt)) receipt prospects

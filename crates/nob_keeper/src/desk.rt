@@ -2,7 +2,7 @@
 
 ghost use Rattle.std.specs.Prelude.{◌≡◌, ◌≢◌, ◌<◌, ◌≤◌, ◌+◌, ◌-◌, ◌^◌, ◌++◌, ◌∷◌, [], ◌↔◌, ℕ, true, Some, None, slice_get, IfSome, OnOk, OnErr};
 ghost use Rattle.nob_keeper.specs.Desks as desks;
-ghost use Rattle.nob_keeper.specs.Staying.{IsAmong};
+ghost use Rattle.nob_kept.specs.Staying.{IsAmong};
 ghost use Rattle.nob_keeper.specs.declared.waking.WorkKind.{WorkKind as WorkKindOf};
 
 use crate::waking::{Wakes, WorkKind};

@@ -2,23 +2,19 @@
 
 ghost use Rattle.std.specs.Prelude.{◌≡◌, ◌↔◌, ◌≤◌, ◌&&◌, true, false, replicate, OnOk, OnErr, IfOk};
 ghost use Rattle.nob_model.specs.Next as next;
-ghost use Rattle.nob_keeper.specs.Accounts as accounts;
+ghost use Rattle.nob_kept.specs.Accounts as accounts;
 ghost use Rattle.nob_keeper.specs.Desks as desks;
-ghost use Rattle.nob_keeper.specs.Seats as seats;
-ghost use Rattle.nob_keeper.specs.Summaries as summaries;
+ghost use Rattle.nob_kept.specs.Seats as seats;
+ghost use Rattle.nob_kept.specs.Summaries as summaries;
 ghost use Rattle.nob_keeper.specs.Waking as waking;
 ghost use Rattle.nob_keeper.specs.declared.waking.WorkKind.TheVariants as kinds;
 
 use crate::desk::{Desk, REPLY_PLACES, reply_place};
-use crate::error::KeeperError;
-use crate::identity::Identity;
-use crate::kept::Kept;
-use crate::receipt::Receipt;
-use crate::seat::Seat;
-use crate::waking::{Prospects, Wakes, WorkKind, wakes_of};
+use crate::waking::{Prospects, Wakes, WorkKind, can_care, prospects, wakes_of};
 use nob_ids::{CallNo, SpaceId};
-use nob_model_types::{Backlog, Event, Here, Tally};
-use nob_space::{Due, Work};
+use nob_kept::{Backlog, Due, Identity, KeeperError, Kept, Receipt, Seat, Tally};
+use nob_model_types::{Event, Here};
+use nob_space::Work;
 
 /// What stands under a keeper's lock: the space with its trace, and who waits.
 pub(crate) struct Held {
@@ -91,7 +87,7 @@ impl Held {
         ensures adds { OnOk result (seats.Adds seat.old seat.new event.now seen) }
         ensures next { OnOk result (seats.AddsNext identity.now seat.old seat.new event.now seen) }
         ensures opens { IfOk result (λ notice.
-            seats.AddsAndOpens identity.now seat.old seat.new event.now seen notice.prospects) }
+            waking.AddsAndOpens identity.now seat.old seat.new event.now seen notice.prospects) }
         ensures notice { IfOk result (λ notice.
             desks.IsNoticeOf self.new.kept self.old.desk self.new.desk seat.new notice) }
         ensures err { OnErr result (seat.new ≡ seat.old) }
@@ -184,7 +180,7 @@ impl Held {
     pub(crate) fn chores(&self) -> Chores {
         Chores {
             claim: self.kept.can_claim(),
-            care: self.kept.can_care(),
+            care: can_care(&self.kept),
         }
     }
 
@@ -232,7 +228,7 @@ fn notice_of(kept: &Kept, desk: &Desk, receipt: &Receipt) -> Notice
         care: wakes_carer(kept, desk, wakes.care),
         claim: wakes_claimer(kept, desk, wakes.claim),
         replies: replies_of(kept, desk.waiting(), wakes.reply),
-        prospects: kept.prospects(wakes),
+        prospects: prospects(kept, wakes),
     }
 }
 
@@ -248,7 +244,7 @@ fn wakes_carer(kept: &Kept, desk: &Desk, may: bool) -> bool
     ensures { result ≡ (may && (desks.is_parked kinds.Care desk.now
         && waking.can_care kept.now.id kept.now.n (accounts.history_in kept.now))) }
 {
-    may && (desk.is_parked(WorkKind::Care) && kept.can_care())
+    may && (desk.is_parked(WorkKind::Care) && can_care(kept))
 }
 
 // Whether who claims jobs is woken: where there is one.
@@ -272,12 +268,15 @@ fn notice_to_all(kept: &Kept) -> Notice
         care: true,
         claim: true,
         replies: [true; REPLY_PLACES],
-        prospects: kept.prospects(Wakes {
-            send: true,
-            care: true,
-            claim: true,
-            reply: true,
-        }),
+        prospects: prospects(
+            kept,
+            Wakes {
+                send: true,
+                care: true,
+                claim: true,
+                reply: true,
+            },
+        ),
     }
 }
 
@@ -307,7 +306,7 @@ fn ready_places(kept: &Kept, waiting: &[CallNo]) -> [bool; REPLY_PLACES]
 }
 
 // What is said of the session with a peer by a space that did nothing.
-#[tactic(auto, using(crate::proofs::Summaries::blank_some, crate::proofs::Summaries::blank_none))]
+#[tactic(auto, using(crate::proofs::Blanks::blank_some, crate::proofs::Blanks::blank_none))]
 fn first_tally(identity: &Identity, peer: SpaceId) -> Option<Tally>
     ensures { result ≡ summaries.tally_in (accounts.blank identity.now) peer }
 {

@@ -4,28 +4,26 @@ ghost use Rattle.std.specs.Prelude.{◌≡◌, ◌⊎◌, ◌≤◌, [], OnOk, O
 ghost use Rattle.nob_model_types.specs.declared.event.Event.TheVariants as events;
 ghost use Rattle.nob_space.specs.Spaces.{StandsFor};
 ghost use Rattle.nob_chain.specs.Chains.{joined};
-ghost use Rattle.nob_keeper.specs.Accounts as accounts;
-ghost use Rattle.nob_keeper.specs.Closing as closing;
-ghost use Rattle.nob_keeper.specs.Seats as seats;
-ghost use Rattle.nob_keeper.specs.Segments as segments;
-ghost use Rattle.nob_keeper.specs.Summaries as summaries;
-ghost use Rattle.nob_keeper.specs.declared.keep.Keep.TheVariants as keeps;
+ghost use Rattle.nob_kept.specs.Accounts as accounts;
+ghost use Rattle.nob_kept.specs.Closing as closing;
+ghost use Rattle.nob_kept.specs.Kinds as kinds;
+ghost use Rattle.nob_kept.specs.Seats as seats;
+ghost use Rattle.nob_kept.specs.Segments as segments;
+ghost use Rattle.nob_kept.specs.Summaries as summaries;
+ghost use Rattle.nob_keeper.specs.Waking as waking;
+ghost use Rattle.nob_kept.specs.declared.keep.Keep.TheVariants as keeps;
 
 use crate::desk::{Desk, REPLY_PLACES, reply_place};
-use crate::error::KeeperError;
 use crate::held::{Chores, Dues, Held, Look, Notice, Wake};
-use crate::identity::Identity;
-use crate::keep::Keep;
-use crate::kept::{Kept, begun};
 use crate::locking::lock_soon;
-use crate::seat::Seat;
-use crate::summary::Summary;
-use crate::trail::{LARGEST_SIZE, is_size};
 use crate::waking::{Prospects, WorkKind};
 use nob_chain::Chain;
 use nob_ids::{CallNo, SpaceId};
-use nob_model_types::{Backlog, Event, Tally};
-use nob_space::{Space, Work};
+use nob_kept::{
+    AnswerKind, Backlog, Identity, Keep, KeeperError, Kept, Seat, Space, Summary, Tally, is_size,
+};
+use nob_model_types::{Event, Refusal};
+use nob_space::Work;
 use std::alloc::Global;
 use std::sync::{Condvar, Mutex, Wait};
 
@@ -71,7 +69,11 @@ impl Keeper {
             keeper.identity ≡ accounts.identity_in space) }
         ensures back { IfErr result (λ back. back ≡ space) }
     {
-        keeper_of(alloc, space, keep, LARGEST_SIZE)
+        let Some(replies) = reply_places(alloc) else {
+            return Err(space);
+        };
+        let kept = Kept::keeping(alloc, space, keep)?;
+        Ok(keeper_of(alloc, kept, replies))
     }
 
     /// The same as `new`, with segments of so many entries: K5 where that isn't 1 to 65,536, before
@@ -93,10 +95,11 @@ impl Keeper {
         if !is_size(size) {
             return Err((KeeperError::Size, space));
         }
-        match keeper_of(alloc, space, Keep::All, size) {
-            Ok(keeper) => Ok(keeper),
-            Err(space) => Err((KeeperError::OutOfMemory, space)),
-        }
+        let Some(replies) = reply_places(alloc) else {
+            return Err((KeeperError::OutOfMemory, space));
+        };
+        let kept = Kept::with_segment(alloc, space, size)?;
+        Ok(keeper_of(alloc, kept, replies))
     }
 
     /// A seat for one more caller. It takes no memory.
@@ -140,18 +143,38 @@ impl Keeper {
         seen: u64,
     ) -> Result<Prospects, KeeperError>
         ensures opens { IfOk result (λ prospects.
-            seats.AddsAndOpens self.now.identity seat.old seat.new event.now seen prospects) }
+            waking.AddsAndOpens self.now.identity seat.old seat.new event.now seen prospects) }
         ensures adds { OnOk result (seats.Adds seat.old seat.new event.now seen) }
         ensures next { OnOk result (seats.AddsNext self.now.identity seat.old seat.new event.now seen) }
         ensures err { OnErr result (seat.new ≡ seat.old) }
     {
-        // Room is made before the lock is taken, if it can be: it is asked for again under it.
+        // Where there is none the call says so under the lock, once nothing else refuses it.
         let _room = seat.make_room();
         let mut held = lock_soon(rt, &self.held);
         let notice = held.call(&self.identity, seat, event, seen)?;
         drop(held);
         self.wake(&notice);
         Ok(notice.prospects)
+    }
+
+    /// The same call, answered by an answer of the kind that its event has, or by why the space
+    /// refused it.
+    pub fn ask<R: Wait, A: AnswerKind>(
+        &self,
+        rt: &R,
+        seat: &mut Seat,
+        event: &Event,
+        seen: u64,
+    ) -> Result<Result<A, Refusal>, KeeperError>
+        requires kind { kinds.IsAnsweredBy A.is_one event.now }
+        ensures answer { IfOk result (λ answer.
+            kinds.IsNewest seat.new (kinds.result_as A.as_answer answer)) }
+        ensures adds { OnOk result (seats.Adds seat.old seat.new event.now seen) }
+        ensures next { OnOk result (seats.AddsNext self.now.identity seat.old seat.new event.now seen) }
+        ensures err { OnErr result (seat.new ≡ seat.old) }
+    {
+        self.call(rt, seat, event, seen)?;
+        Ok(seat.answer())
     }
 
     /// Waits until TakeReply of a call would say anything but that the reply isn't ready, or the
@@ -179,12 +202,13 @@ impl Keeper {
         seat: &mut Seat,
         call: CallNo,
     ) -> Result<Prospects, KeeperError>
-        ensures opens { IfOk result (λ prospects. seats.AddsAndOpens self.now.identity seat.old
+        ensures opens { IfOk result (λ prospects. waking.AddsAndOpens self.now.identity seat.old
             seat.new (events.TakeReply call) 0 prospects) }
         ensures adds { OnOk result (seats.Adds seat.old seat.new (events.TakeReply call) 0) }
         ensures next { OnOk result (seats.AddsNext self.now.identity seat.old seat.new (events.TakeReply call) 0) }
         ensures err { OnErr result (seat.new ≡ seat.old) }
     {
+        let _room = seat.make_room();
         let mut held = lock_soon(rt, &self.held);
         if held.awaits(call) {
             held.kept.check(seat)?;
@@ -418,23 +442,15 @@ fn reply_places(alloc: Global) -> Option<Vec<Condvar>>
     Some(places)
 }
 
-// A keeper of a new space, which keeps all entries, in segments of so many, or nothing. Only memory
-// fails it, and then the space is handed back.
-fn keeper_of(alloc: Global, space: Space, keep: Keep, size: u32) -> Result<Keeper, Space>
-    requires new { StandsFor space [] }
-    requires some { 1 ≤ space.n }
-    requires size { segments.IsSize size }
-    ensures keep { IfOk result (λ keeper. keeper.keep ≡ keep) }
-    ensures identity { IfOk result (λ keeper. keeper.identity ≡ accounts.identity_in space) }
-    ensures back { IfErr result (λ back. back ≡ space) }
+// A keeper of a space with its trace, with the places at which one waits for replies.
+fn keeper_of(alloc: Global, kept: Kept, replies: Vec<Condvar>) -> Keeper
+    requires places { vec_len replies ≡ 32 }
+    ensures keep { result.keep ≡ kept.keep }
+    ensures identity { result.identity ≡ accounts.identity_of kept }
 {
-    let Some(replies) = reply_places(alloc) else {
-        return Err(space);
-    };
-    let kept = begun(alloc, space, keep, size)?;
-    Ok(Keeper {
+    Keeper {
         alloc,
-        keep,
+        keep: kept.keep(),
         identity: kept.identity(),
         held: Mutex::new(Held {
             kept,
@@ -444,5 +460,5 @@ fn keeper_of(alloc: Global, space: Space, keep: Keep, size: u32) -> Result<Keepe
         to_care: Condvar::new(),
         to_claim: Condvar::new(),
         replies,
-    })
+    }
 }

@@ -1,10 +1,15 @@
 //! What an event may have made possible.
 
-ghost use Rattle.std.specs.Prelude.{◌≡◌};
+ghost use Rattle.std.specs.Prelude.{◌≡◌, ◌↔◌, ◌⊎◌, ◌&&◌, ◌||◌, true};
+ghost use Rattle.nob_ids.specs.Names.{IsSpace};
+ghost use Rattle.nob_model.specs.Next as next;
+ghost use Rattle.nob_kept.specs.Accounts as accounts;
+ghost use Rattle.nob_kept.specs.Kinds as kinds;
 ghost use Rattle.nob_keeper.specs.Waking as waking;
 
+use nob_ids::SpaceId;
+use nob_kept::{Due, Kept};
 use nob_model_types::{Answer, Event};
-use nob_space::Due;
 
 /// A kind of work for which a thread may wait.
 #[derive(Clone, Copy, Debug, PartialEq, Eq)]
@@ -67,7 +72,7 @@ pub fn is_new(due: Due) -> bool
 
 // Whether an answer says that a session closed.
 fn is_closing(answer: &Answer) -> bool
-    ensures { result ≡ waking.is_closing answer.now }
+    ensures { result ≡ kinds.is_closing answer.now }
 {
     match answer {
         Answer::Closed(_) => true,
@@ -135,5 +140,54 @@ fn may_reply(event: &Event) -> bool
         Event::Tick(_) => true,
         Event::Close(_) => true,
         _ => false,
+    }
+}
+
+// What there is of what an event may have made possible. Where the trace is full, all that may: who
+// goes on with it sees so. A few look-ups, and one for each space until there is something new.
+pub(crate) fn prospects(kept: &Kept, wakes: Wakes) -> Prospects
+    ensures send { (result.send ≡ true) ↔ ((wakes.send ≡ true)
+        × ((accounts.is_full kept.now ≡ true) ⊎ waking.HasNew kept.now)) }
+    ensures care { result.care ≡ (wakes.care && (accounts.is_full kept.now
+        || waking.can_care kept.now.id kept.now.n (accounts.history_in kept.now))) }
+    ensures claim { result.claim ≡ (wakes.claim && (accounts.is_full kept.now
+        || next.can_claim (accounts.history_in kept.now))) }
+{
+    let is_full = kept.is_full();
+    Prospects {
+        send: wakes.send && (is_full || has_new(kept)),
+        care: wakes.care && (is_full || can_care(kept)),
+        claim: wakes.claim && (is_full || kept.can_claim()),
+    }
+}
+
+// Whether there is something to settle, to clean or to withdraw. It costs what `Space::can_settle`,
+// `can_clean` and `to_withdraw` cost.
+pub(crate) fn can_care(kept: &Kept) -> bool
+    ensures { result ≡ waking.can_care kept.now.id kept.now.n (accounts.history_in kept.now) }
+{
+    kept.can_settle() || kept.can_clean() || kept.to_withdraw().is_some()
+}
+
+// Whether a Transmit to some space would give something that was never given.
+fn has_new(kept: &Kept) -> bool
+    ensures { (result ≡ true) ↔ waking.HasNew kept.now }
+{
+    for number in 1..=kept.n().get() {
+        if is_new_to(kept, number) {
+            return true;
+        }
+    }
+    false
+}
+
+// Whether a Transmit to the space of a number would give something that was never given.
+fn is_new_to(kept: &Kept, number: u16) -> bool
+    requires { IsSpace number }
+    ensures { result ≡ waking.is_new_to kept.now number }
+{
+    match SpaceId::new(number) {
+        Some(peer) => is_new(kept.due(peer)),
+        None => false,
     }
 }

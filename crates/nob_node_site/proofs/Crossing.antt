@@ -26,7 +26,7 @@ use Rattle.nob_node_site.specs.contracts.crew.Crew as Crew
 use Rattle.nob_node_site.specs.contracts.inbox.Inbox as Inbox
 use Rattle.nob_node_site.specs.contracts.site.Site as Site
 use Rattle.nob_agents.specs.contracts.carer.Carer as Carer
-use Rattle.nob_keeper.specs.contracts.seat.Seat as Seat
+use Rattle.nob_kept.specs.contracts.seat.Seat as Seat
 
 ways_send : IsSend (Way.the_row PutEnd.the_row ghosts)
 ways_send = way_send PutEnd.the_row ghosts put_end.the_send

@@ -1,6 +1,6 @@
 //! A list of which only the last part has bytes.
 
-ghost use Rattle.std.specs.Prelude.{◌≡◌, ◌<◌, ◌+◌, ◌-◌, ◌^◌, ◌++◌, ◌∷◌, [], List, length, slice_get, Some, None, IfSome, OnOk};
+ghost use Rattle.std.specs.Prelude.{◌≡◌, ◌↔◌, ◌<◌, ◌+◌, ◌-◌, ◌^◌, ◌++◌, ◌∷◌, [], List, true, length, slice_get, Some, None, IfSome, OnOk};
 
 use std::alloc::{AllocError, Global};
 use std::marker::Model;
@@ -126,6 +126,13 @@ impl<T: Drop> Past<T> {
             return Err(AllocError);
         }
         self.kept.reserve(1)
+    }
+
+    /// Whether there is a place for one more.
+    pub fn has_room(&self) -> bool
+        ensures { (result ≡ true) ↔ ((0 < self.now.room) × (length self.now.items < 2 ^ 62)) }
+    {
+        self.len < MAX_LEN && self.kept.len() < self.kept.capacity()
     }
 
     /// One more behind the others, at the place that there is.

@@ -3,9 +3,9 @@
 use crate::short::{ends, entries_of, exported};
 use crate::spaces::{first, new_keeper, second};
 use nob_chain::Chain;
-use nob_ids::{CallNo, WireRep};
-use nob_keeper::{Keeper, Seat};
-use nob_model_types::{Answer, Event};
+use nob_ids::{CallNo, Reason, WireRep};
+use nob_keeper::{CloseAnswer, Keeper, Seat};
+use nob_model_types::Event;
 use nob_pickle::Value;
 use std::alloc::Global;
 use std::sync::Wait;
@@ -153,11 +153,10 @@ fn wait_and_close<R: Threads + Wait + Sync>(rt: &R, keeper: &Keeper) -> (Left, L
 // Waits for the reply to the first call, which must be told to have ended.
 fn wait_for_end<R: Wait>(rt: &R, keeper: &Keeper) -> Left {
     let mut seat = keeper.seat();
-    let is_right = keeper.wait_reply(rt, &mut seat, CallNo::new(1)).is_ok()
-        && match seat.newest() {
-            Some(receipt) => matches!(&receipt.result, Ok(Answer::Ended)),
-            None => false,
-        };
+    let is_right = match keeper.wait_reply(rt, &mut seat, CallNo::new(1)) {
+        Ok(()) => matches!(seat.reply(), Ok(None)),
+        Err(_) => false,
+    };
     Left { seat, is_right }
 }
 
@@ -167,6 +166,7 @@ fn close<R: Wait>(rt: &R, keeper: &Keeper) -> Left {
     for _ in 0..LOOKS {
         let _work = keeper.work(rt);
     }
-    let is_right = is_answered(rt, keeper, &mut seat, &Event::Close(second()));
+    let closed = keeper.ask(rt, &mut seat, &Event::Close(second()), 0);
+    let is_right = matches!(closed, Ok(Ok(CloseAnswer(Reason::Asked))));
     Left { seat, is_right }
 }

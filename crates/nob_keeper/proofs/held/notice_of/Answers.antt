@@ -2,7 +2,7 @@ use Rattle.std.proofs.Common.{◌≡◌, ℕ, Bool, List, ◌&&◌, sym, ap, sub
 use Rattle.nob_model.specs.Next.{can_claim, reply_ready}
 use Rattle.nob_keeper.specs.declared.waking.Wakes.{Wakes}
 use Rattle.nob_keeper.specs.declared.waking.WorkKind.TheVariants as kinds
-use Rattle.nob_keeper.specs.Accounts.{history_in}
+use Rattle.nob_kept.specs.Accounts.{history_in}
 use Rattle.nob_keeper.specs.Desks as desks
 use Rattle.nob_keeper.specs.Waking.{AreProspects, can_care}
 use Rattle.nob_keeper.proofs.Desks.{notice_full, notice_some}

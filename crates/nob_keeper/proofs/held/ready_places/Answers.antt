@@ -3,7 +3,7 @@ use lib.ListN.{set}
 use Rattle.std.proofs.lemmas.List.{take_more, length-set}
 use Rattle.std.proofs.lemmas.Nat.{mod_below}
 use Rattle.nob_model.specs.Next as next
-use Rattle.nob_keeper.specs.Accounts as accounts
+use Rattle.nob_kept.specs.Accounts as accounts
 use Rattle.nob_keeper.specs.Desks as desks
 use Rattle.nob_keeper.proofs.Marked.{marks_more, marks_push}
 use Rattle.nob_keeper.proofs.held.ready_places.Goals.{then-reply_ready, else-reply_ready}

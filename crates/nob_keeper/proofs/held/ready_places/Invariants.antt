@@ -1,7 +1,7 @@
 use Rattle.std.proofs.Common.{◌≡◌, length, take}
 use Rattle.nob_keeper.specs.Desks as desks
 use Rattle.nob_model.specs.Next as next
-use Rattle.nob_keeper.specs.Accounts as accounts
+use Rattle.nob_kept.specs.Accounts as accounts
 use Rattle.nob_keeper.proofs.held.ready_places.Given as goal
 
 abbrev pub invariant-loop-call : goal.invariant-loop-call

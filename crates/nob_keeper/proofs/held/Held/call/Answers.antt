@@ -1,12 +1,12 @@
 use Rattle.std.proofs.Common.{◌≡◌, List, Option, Some, refl, sym, ap, subst, ◌∙◌}
-use Rattle.nob_keeper.specs.declared.identity.Identity.{Identity}
-use Rattle.nob_keeper.specs.declared.receipt.Receipt.{Receipt}
-use Rattle.nob_keeper.specs.Accounts.{Account, identity_of, with_next}
-use Rattle.nob_keeper.specs.Receipts.{entry_of}
-use Rattle.nob_keeper.specs.Seats as seats
+use Rattle.nob_kept.specs.declared.identity.Identity.{Identity}
+use Rattle.nob_kept.specs.declared.receipt.Receipt.{Receipt}
+use Rattle.nob_kept.specs.Accounts.{Account, identity_of, with_next}
+use Rattle.nob_kept.specs.Receipts.{entry_of}
+use Rattle.nob_kept.specs.Seats as seats
 use Rattle.nob_keeper.specs.Waking.{AreProspectsBehind}
 use Rattle.nob_keeper.proofs.Desks.{prospects_noted}
-use Rattle.nob_keeper.proofs.Seats.{newest_is}
+use Rattle.nob_kept.proofs.Seats.{newest_is}
 use Rattle.nob_keeper.proofs.held.Held.call.Goals as goal
 
 pub returns-clause-next : goal.returns-clause-next

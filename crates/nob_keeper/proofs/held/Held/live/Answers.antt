@@ -1,5 +1,5 @@
 use Rattle.std.proofs.Common.{refl}
-use Rattle.nob_keeper.proofs.Summaries.{blank_live}
+use Rattle.nob_keeper.proofs.Blanks.{blank_live}
 use Rattle.nob_keeper.proofs.held.Held.live.Goals as goal
 
 pub returns-then-not-is_of : goal.returns-then-not-is_of

@@ -1,6 +1,7 @@
 use Rattle.std.proofs.Common.{List, subst}
-use Rattle.nob_keeper.specs.Seats as seats
-use Rattle.nob_keeper.specs.declared.receipt.Receipt.{Receipt}
+use Rattle.nob_kept.specs.Seats as seats
+use Rattle.nob_keeper.specs.Waking as waking
+use Rattle.nob_kept.specs.declared.receipt.Receipt.{Receipt}
 use Rattle.nob_keeper.proofs.keeper.Keeper.call_and_look.Goals as goal
 
 pub returns-clause-next : goal.returns-clause-next
@@ -9,4 +10,4 @@ returns-clause-next g c =
 
 pub returns-clause-opens : goal.returns-clause-opens
 returns-clause-opens g c =
-    subst (λ (receipts : List Receipt). seats.AddsAndOpens c.args.self.now.identity receipts c.call.new.seat c.args.event.now c.args.seen c.in_ok-notice.notice.prospects) c.make_room-room.ensures ((c.in_ok-notice.ensures {u = tt}).opens)
+    subst (λ (receipts : List Receipt). waking.AddsAndOpens c.args.self.now.identity receipts c.call.new.seat c.args.event.now c.args.seen c.in_ok-notice.notice.prospects) c.make_room-room.ensures ((c.in_ok-notice.ensures {u = tt}).opens)

@@ -1,0 +1,11 @@
+pub mod Staying
+pub mod Accounts
+pub mod Segments
+pub mod Trails
+pub mod Seats
+pub mod Fitting
+pub mod Newest
+pub mod Spots
+pub mod Marks
+pub mod Crossing
+pub mod Summaries

@@ -1,0 +1,9 @@
+pub mod Staying
+pub mod Accounts
+pub mod Segments
+pub mod Spots
+pub mod Receipts
+pub mod Kinds
+pub mod Seats
+pub mod Closing
+pub mod Summaries
