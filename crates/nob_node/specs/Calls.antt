@@ -30,24 +30,16 @@ IsHandedOn (Ok (answers.Replied status value)) (returns.Replied said given holds
 IsHandedOn (Ok answers.Ended) returns.Ended = Unit {0}
 IsHandedOn _ _ = ⊥
 
--- the newest receipt has this result
-abbrev pub IsNewest : List Receipt → Result Answer Refusal → Type 0
-IsNewest [] result = ⊥
-IsNewest (receipt ∷ earlier) result = receipt.result ≡ result
-
--- where a node says that the space refuses something, the newest receipt has that refusal
-abbrev pub IsNewestRefusal : List Receipt → NodeError → Type 0
-IsNewestRefusal receipts (errors.Refused refusal) = IsNewest receipts (Err refusal)
-IsNewestRefusal receipts (errors.Keeper error) = Unit {0}
-
--- the newest receipt's answer is handed on
-abbrev pub HandsOn : List Receipt → Returned → Type 0
-HandsOn [] returned = ⊥
-HandsOn (receipt ∷ earlier) returned = IsHandedOn receipt.result returned
-
 -- one receipt was added, of this event
 abbrev pub IsAsked : List Receipt → List Receipt → Event → Type 0
 IsAsked old new event = (receipt : Receipt) × (new ≡ receipt ∷ old) × (receipt.event ≡ event)
+
+-- of the newest receipt the answer is handed on, or the refusal
+abbrev pub HandsOn : List Receipt → Result Returned NodeError → Type 0
+HandsOn [] told = ⊥
+HandsOn (receipt ∷ earlier) (Ok returned) = IsHandedOn receipt.result returned
+HandsOn (receipt ∷ earlier) (Err (errors.Refused refusal)) = receipt.result ≡ Err refusal
+HandsOn (receipt ∷ earlier) (Err (errors.Keeper error)) = ⊥
 
 -- the reply to a call was taken and is handed on
 abbrev pub TakesReply : List Receipt → List Receipt → ℕ → Returned → Type 0

@@ -1,12 +1,15 @@
 //! Holds on references, and what a call returns.
 
 ghost use Rattle.std.specs.Prelude.{◌≡◌, Ok, IfOk, IfErr};
-ghost use Rattle.nob_node.specs.Holds.{IsOneHold};
+ghost use Rattle.nob_model_types.specs.declared.answer.Answer.TheVariants as answers;
+ghost use Rattle.nob_node.specs.Calls.{IsHandedOn};
+ghost use Rattle.nob_node.specs.Holds.{IsOneHold, counted_in, held_by};
 ghost use Rattle.nob_node.specs.declared.hold.Hold.{Hold as HoldOf};
 ghost use Rattle.nob_node.specs.declared.hold.Returned.TheVariants as returns;
 
 use nob_ids::WireRep;
-use nob_pickle::Value;
+use nob_pickle::{Value, counted_ref};
+use std::alloc::{AllocError, Global};
 
 /// One hold of a node on a reference. It must be given back: by `Node::release`, or by `forget` once
 /// the node has ended.
@@ -94,8 +97,36 @@ fn one_hold(status: u8, value: Value, mut holds: Vec<Hold>) -> Result<Hold, Retu
     })
 }
 
+// A reply as it is handed on: with a hold on each of its counted references. Only memory fails it.
+pub(crate) fn handed_on(alloc: Global, status: u8, value: &Value) -> Result<Returned, AllocError>
+    ensures { IfOk result (λ returned. IsHandedOn (Ok (answers.Replied status value.now)) returned) }
+{
+    let value = value.copy()?;
+    let holds = holds_in(alloc, &value)?;
+    Ok(Returned::Replied {
+        status,
+        value,
+        holds,
+    })
+}
+
+// A hold on each counted reference in a value, in reading order. Only memory fails it.
+fn holds_in(alloc: Global, value: &Value) -> Result<Vec<Hold>, AllocError>
+    ensures { IfOk result (λ holds. held_by holds.items ≡ counted_in value.now) }
+{
+    let mut holds = Vec::new(alloc);
+    while let Some(rep) = counted_ref(value, holds.len()) {
+        if let Err(failed) = holds.push(Hold { rep }) {
+            failed.value.forget();
+            forget_all(holds);
+            return Err(AllocError);
+        }
+    }
+    Ok(holds)
+}
+
 // Lets go of holds.
-pub(crate) fn forget_all(mut holds: Vec<Hold>) {
+fn forget_all(mut holds: Vec<Hold>) {
     while let Some(hold) = holds.pop() {
         hold.forget();
     }

@@ -1,7 +1,6 @@
 //! A node: a space for an application, with the threads that carry its frames and run its objects.
 #![tactic(auto)]
 
-mod answers;
 mod app;
 mod error;
 mod hold;

@@ -1,24 +1,27 @@
 //! A node, as its application sees it.
 
-ghost use Rattle.std.specs.Prelude.{◌≡◌, ◌++◌, List, [], Some, None, Ok, Err, reverse, IfOk, IfErr, IfSome, OnOk, OnErr};
+ghost use Rattle.std.specs.Prelude.{◌≡◌, ◌++◌, List, [], Some, None, Ok, Err, reverse, IfOk, IfErr, OnOk};
 ghost use Rattle.nob_model_types.specs.declared.event.Event.TheVariants as events;
 ghost use Rattle.nob_model_types.specs.declared.answer.Answer.TheVariants as answers;
 ghost use Rattle.nob_pickle.specs.declared.value.Value.TheVariants as values;
 ghost use Rattle.nob_kept.specs.declared.receipt.Receipt.{Receipt as ReceiptOf};
+ghost use Rattle.nob_keeper.specs.Kinds as kinds;
 ghost use Rattle.nob_keeper.specs.Summaries as summaries;
 ghost use Rattle.nob_node.specs.Calls as calls;
 
-use crate::answers::{call_in, exported_in, is_done_in, opened_in, refusal_in, returned_in};
 use crate::error::NodeError;
-use crate::hold::{Hold, Returned};
+use crate::hold::{Hold, Returned, handed_on};
 use nob_bytes::Bytes;
 use nob_dispatch_objects::{Name, Object};
 use nob_ids::{CallNo, SpaceId, WireRep};
-use nob_keeper::{Backlog, KeeperError, Receipt, Seat, Tally};
+use nob_keeper::{
+    AnswerKind, Backlog, CallAnswer, CloseAnswer, DoneAnswer, ExportAnswer, KeeperError,
+    OpenAnswer, Receipt, Seat, Tally, WithdrawAnswer,
+};
 use nob_model_types::{Event, Refusal};
 use nob_node_site::{Calls, JobCalls, Kept, Site};
 use nob_pickle::Value;
-use std::alloc::Global;
+use std::alloc::{AllocError, Global};
 use std::marker::Model;
 use std::sync::Wait;
 use std::{mem, thread};
@@ -45,9 +48,9 @@ impl<'x, B: Object> Model for Node<'x, B> {
     ghost view = { λ node. node.seat };
 }
 
-// What fails a call that should have had another answer. It doesn't come: each answer is the right
-// one.
-const STRANGE: NodeError = NodeError::Keeper(KeeperError::Seats);
+// What fails a call that wants the agent of a node which has none. It doesn't come while the node
+// runs.
+const NO_AGENT: NodeError = NodeError::Keeper(KeeperError::Seats);
 
 impl<'x, B: Object> Node<'x, B> {
     // The node of a site.
@@ -68,29 +71,19 @@ impl<'x, B: Object> Node<'x, B> {
         seat
     }
 
-    // One event of the space. J2 where the space refuses it.
-    fn ask<R: Wait>(&mut self, rt: &R, event: &Event) -> Result<(), NodeError>
-        ensures asked { OnOk result (calls.IsAsked self.old self.new event.now) }
+    // One event of the space, and its answer. J2 where the space refuses it.
+    fn ask<R: Wait, A: AnswerKind>(&mut self, rt: &R, event: &Event) -> Result<A, NodeError>
+        requires kind { kinds.IsAnsweredBy A.is_one event.now }
+        ensures answered { IfOk result (λ answer.
+            calls.Answered self.old self.new event.now (Ok (A.as_answer answer))) }
         ensures refused { IfErr result (λ error. calls.IsRefusal self.old self.new event.now error) }
     {
         if let Err(error) = Calls::call(self.site, rt, &mut self.seat, event, 0) {
             return Err(NodeError::Keeper(error));
         }
-        match refusal_in(&self.seat) {
-            Some(refusal) => Err(NodeError::Refused(refusal)),
-            None => Ok(()),
-        }
-    }
-
-    // One event of the space that is answered by nothing but that it was done.
-    fn ask_done<R: Wait>(&mut self, rt: &R, event: &Event) -> Result<(), NodeError>
-        ensures done { OnOk result (calls.Answered self.old self.new event.now (Ok answers.Done)) }
-        ensures refused { IfErr result (λ error. calls.IsRefusal self.old self.new event.now error) }
-    {
-        self.ask(rt, event)?;
-        match is_done_in(&self.seat) {
-            Some(()) => Ok(()),
-            None => Err(STRANGE),
+        match self.seat.answer() {
+            Ok(answer) => Ok(answer),
+            Err(refusal) => Err(NodeError::Refused(refusal)),
         }
     }
 
@@ -103,26 +96,23 @@ impl<'x, B: Object> Node<'x, B> {
             calls.IsRefusal self.old self.new events.Export back.0) }
         ensures back { IfErr result (λ back. back.1 ≡ object) }
     {
-        if let Err(error) = self.ask(rt, &Event::Export) {
-            return Err((error, object));
-        }
-        let Some(rep) = exported_in(&self.seat) else {
-            return Err((STRANGE, object));
+        let rep = match self.ask(rt, &Event::Export) {
+            Ok(ExportAnswer(rep)) => rep,
+            Err(error) => return Err((error, object)),
         };
-        let index = rep.index;
-        match self.site.add(rt, self.alloc, index, object) {
+        match self.site.add(rt, self.alloc, rep.index, object) {
             Ok(()) => Ok(Hold { rep }),
             Err(object) => {
-                self.take_back(rt, index, rep);
+                self.take_back(rt, rep);
                 Err((NodeError::Keeper(KeeperError::OutOfMemory), object))
             }
         }
     }
 
     // Gives up an object that there was no room for.
-    fn take_back<R: Wait>(&mut self, rt: &R, index: u64, rep: WireRep) {
-        let _ = self.ask(rt, &Event::Release(rep));
-        let _ = self.ask(rt, &Event::Withdraw(index));
+    fn take_back<R: Wait>(&mut self, rt: &R, rep: WireRep) {
+        let _ = self.ask::<R, DoneAnswer>(rt, &Event::Release(rep));
+        let _ = self.ask::<R, WithdrawAnswer>(rt, &Event::Withdraw(rep.index));
     }
 
     /// One hold more on the same reference. J1, J2 (S2, S3, S4, S13).
@@ -132,7 +122,7 @@ impl<'x, B: Object> Node<'x, B> {
         ensures refused { IfErr result (λ error.
             calls.IsRefusal self.old self.new (events.Dup hold.now.rep) error) }
     {
-        self.ask_done(rt, &Event::Dup(hold.rep))?;
+        let DoneAnswer = self.ask(rt, &Event::Dup(hold.rep))?;
         Ok(Hold { rep: hold.rep })
     }
 
@@ -144,8 +134,8 @@ impl<'x, B: Object> Node<'x, B> {
             calls.IsRefusal self.old self.new (events.Release hold.rep) back.0) }
         ensures back { IfErr result (λ back. back.1 ≡ hold) }
     {
-        match self.ask_done(rt, &Event::Release(hold.rep)) {
-            Ok(()) => {
+        match self.ask(rt, &Event::Release(hold.rep)) {
+            Ok(DoneAnswer) => {
                 hold.forget();
                 Ok(())
             }
@@ -161,7 +151,8 @@ impl<'x, B: Object> Node<'x, B> {
         ensures refused { IfErr result (λ error.
             calls.IsRefusal self.old self.new (events.Close peer) error) }
     {
-        self.ask(rt, &Event::Close(peer))
+        let CloseAnswer(_) = self.ask(rt, &Event::Close(peer))?;
+        Ok(())
     }
 
     /// Opens a session with a peer anew, after a close: its number. What is under way in the old one
@@ -174,11 +165,8 @@ impl<'x, B: Object> Node<'x, B> {
         ensures refused { IfErr result (λ error.
             calls.IsRefusal self.old self.new (events.Open peer) error) }
     {
-        self.ask(rt, &Event::Open(peer))?;
-        match opened_in(&self.seat) {
-            Some(number) => Ok(number),
-            None => Err(STRANGE),
-        }
+        let OpenAnswer(number) = self.ask(rt, &Event::Open(peer))?;
+        Ok(number)
     }
 
     /// Calls a method of the object that a hold is on, and waits for what it returns. The value comes
@@ -197,7 +185,15 @@ impl<'x, B: Object> Node<'x, B> {
             calls.IsCallRefusal self.old self.new hold.now.rep method value back.0) }
         ensures back { IfErr result (λ back. back.1 ≡ value) }
     {
-        self.call_at(rt, hold.rep, method, value)
+        let event = Event::Call {
+            target: hold.rep,
+            method,
+            value,
+        };
+        match self.call_by(rt, &event) {
+            Ok(returned) => Ok(returned),
+            Err(error) => Err((error, value_in(event))),
+        }
     }
 
     /// Asks the agent of a space for the reference that a name stands for: a call of its method 1.
@@ -219,48 +215,23 @@ impl<'x, B: Object> Node<'x, B> {
             owner: space,
             index: 0,
         };
-        match self.call_at(rt, agent, 1, Value::Bytes(name)) {
-            Ok(returned) => Ok(returned),
-            Err((error, _value)) => Err(error),
-        }
-    }
-
-    // Calls a method of the object of a reference.
-    fn call_at<R: Wait>(
-        &mut self,
-        rt: &R,
-        target: WireRep,
-        method: u16,
-        value: Value,
-    ) -> Result<Returned, (NodeError, Value)>
-        ensures returned { IfOk result (λ returned.
-            calls.IsCall self.old self.new target method value returned) }
-        ensures refused { IfErr result (λ back.
-            calls.IsCallRefusal self.old self.new target method value back.0) }
-        ensures back { IfErr result (λ back. back.1 ≡ value) }
-    {
         let event = Event::Call {
-            target,
-            method,
-            value,
+            target: agent,
+            method: 1,
+            value: Value::Bytes(name),
         };
-        match self.call_by(rt, &event) {
-            Ok(returned) => Ok(returned),
-            Err(error) => Err((error, value_in(event))),
-        }
+        self.call_by(rt, &event)
     }
 
     // Makes the call that an event asks for, and takes its reply.
     fn call_by<R: Wait>(&mut self, rt: &R, event: &Event) -> Result<Returned, NodeError>
+        requires kind { kinds.IsAnsweredBy kinds.is_called event.now }
         ensures returned { IfOk result (λ returned.
             calls.IsCallBy self.old self.new event.now returned) }
         ensures refused { IfErr result (λ error.
             calls.IsRefusalBy self.old self.new event.now error) }
     {
-        self.ask(rt, event)?;
-        let Some(call) = call_in(&self.seat) else {
-            return Err(STRANGE);
-        };
+        let CallAnswer(call) = self.ask(rt, event)?;
         self.take_reply(rt, call)
     }
 
@@ -274,8 +245,7 @@ impl<'x, B: Object> Node<'x, B> {
         self.await_reply(rt, call)?;
         for _ in rt.forever() {
             match returned_in(self.alloc, &self.seat) {
-                Ok(Some(returned)) => return Ok(returned),
-                Ok(None) => return Err(refused_by(&self.seat)),
+                Ok(returned) => return returned,
                 Err(_) => thread::yield_now(),
             }
         }
@@ -310,12 +280,12 @@ impl<'x, B: Object> Node<'x, B> {
             Err(_) => return Err(NodeError::Keeper(KeeperError::OutOfMemory)),
         };
         let Some(mut agent) = self.site.borrow_agent(rt) else {
-            return Err(STRANGE);
+            return Err(NO_AGENT);
         };
         let bound = self.bind_at(rt, &mut agent, name, hold);
         self.site.give_agent_back(rt, agent);
         match bound? {
-            Some(before) => self.ask_done(rt, &Event::Release(before)),
+            Some(before) => self.give_back(rt, before),
             None => Ok(()),
         }
     }
@@ -324,12 +294,12 @@ impl<'x, B: Object> Node<'x, B> {
     /// there is such a name. It waits while the agent runs. J1.
     pub fn unbind<R: Wait>(&mut self, rt: &R, name: &[u8]) -> Result<(), NodeError> {
         let Some(mut agent) = self.site.borrow_agent(rt) else {
-            return Err(STRANGE);
+            return Err(NO_AGENT);
         };
         let before = agent.remove(name);
         self.site.give_agent_back(rt, agent);
         match before {
-            Some(before) => self.ask_done(rt, &Event::Release(before)),
+            Some(before) => self.give_back(rt, before),
             None => Ok(()),
         }
     }
@@ -339,6 +309,12 @@ impl<'x, B: Object> Node<'x, B> {
     /// full.
     pub fn wait_withdrawn<R: Wait>(&self, rt: &R, index: u64) {
         self.site.wait_withdrawn(rt, index);
+    }
+
+    // Gives back a hold that the agent had on a reference.
+    fn give_back<R: Wait>(&mut self, rt: &R, rep: WireRep) -> Result<(), NodeError> {
+        let DoneAnswer = self.ask(rt, &Event::Release(rep))?;
+        Ok(())
     }
 
     // Has a name stand for the reference of a hold at the agent: the reference that it stood for
@@ -353,11 +329,11 @@ impl<'x, B: Object> Node<'x, B> {
         if agent.is_full_for(&name) {
             return Err(NodeError::Refused(Refusal::Limit));
         }
-        self.ask_done(rt, &Event::Dup(hold.rep))?;
+        let DoneAnswer = self.ask(rt, &Event::Dup(hold.rep))?;
         match agent.put(name, hold.rep) {
             Some(before) => Ok(before),
             None => {
-                let _ = self.ask(rt, &Event::Release(hold.rep));
+                let _ = self.give_back(rt, hold.rep);
                 Err(NodeError::Keeper(KeeperError::OutOfMemory))
             }
         }
@@ -405,12 +381,18 @@ fn value_in(event: Event) -> Value
     }
 }
 
-// Why a reply isn't handed on.
-fn refused_by(seat: &Seat) -> NodeError
-    ensures { calls.IsNewestRefusal seat.now result }
+// What the newest receipt, which is of a TakeReply, hands on: the reply, or that none comes. Only
+// memory fails it.
+fn returned_in(alloc: Global, seat: &Seat) -> Result<Result<Returned, NodeError>, AllocError>
+    requires kind { kinds.IsNewestAnsweredBy kinds.is_reply seat.now }
+    ensures { IfOk result (λ told. calls.HandsOn seat.now told) }
 {
-    match refusal_in(seat) {
-        Some(refusal) => NodeError::Refused(refusal),
-        None => STRANGE,
+    match seat.reply() {
+        Ok(Some((status, value))) => {
+            let returned = handed_on(alloc, status, value)?;
+            Ok(Ok(returned))
+        }
+        Ok(None) => Ok(Ok(Returned::Ended)),
+        Err(refusal) => Ok(Err(NodeError::Refused(refusal))),
     }
 }

@@ -1,7 +1,7 @@
 use Rattle.std.proofs.Common.{◌-◌, length}
 use Rattle.nob_node.specs.Holds.{counted_in}
 use Rattle.nob_node.proofs.Holdings.{AreHeld}
-use Rattle.nob_node.proofs.answers.holds_in.Given as goal
+use Rattle.nob_node.proofs.hold.holds_in.Given as goal
 
 abbrev pub invariant-loop-rep : goal.invariant-loop-rep
 invariant-loop-rep l = AreHeld l.holds.items (counted_in l.value)
