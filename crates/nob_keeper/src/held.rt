@@ -10,7 +10,7 @@ ghost use Rattle.nob_keeper.specs.Waking as waking;
 ghost use Rattle.nob_keeper.specs.declared.waking.WorkKind.TheVariants as kinds;
 
 use crate::desk::{Desk, REPLY_PLACES, reply_place};
-use crate::waking::{Prospects, Wakes, WorkKind, can_care, prospects, wakes_of};
+use crate::waking::{Prospects, Wakes, WorkKind, can_care, prospects_of, wakes_of};
 use nob_ids::{CallNo, SpaceId};
 use nob_kept::{Backlog, Due, Identity, KeeperError, Kept, Receipt, Seat, Tally};
 use nob_model_types::{Event, Here};
@@ -228,7 +228,7 @@ fn notice_of(kept: &Kept, desk: &Desk, receipt: &Receipt) -> Notice
         care: wakes_carer(kept, desk, wakes.care),
         claim: wakes_claimer(kept, desk, wakes.claim),
         replies: replies_of(kept, desk.waiting(), wakes.reply),
-        prospects: prospects(kept, wakes),
+        prospects: prospects_of(kept, wakes),
     }
 }
 
@@ -268,7 +268,7 @@ fn notice_to_all(kept: &Kept) -> Notice
         care: true,
         claim: true,
         replies: [true; REPLY_PLACES],
-        prospects: prospects(
+        prospects: prospects_of(
             kept,
             Wakes {
                 send: true,

@@ -145,7 +145,7 @@ fn may_reply(event: &Event) -> bool
 
 // What there is of what an event may have made possible. Where the trace is full, all that may: who
 // goes on with it sees so. A few look-ups, and one for each space until there is something new.
-pub(crate) fn prospects(kept: &Kept, wakes: Wakes) -> Prospects
+pub(crate) fn prospects_of(kept: &Kept, wakes: Wakes) -> Prospects
     ensures send { (result.send ≡ true) ↔ ((wakes.send ≡ true)
         × ((accounts.is_full kept.now ≡ true) ⊎ waking.HasNew kept.now)) }
     ensures care { result.care ≡ (wakes.care && (accounts.is_full kept.now

@@ -20,7 +20,7 @@ returns c =
     let h = history_in kept in
     let is = c.wakes_by-wakes.ensures in
     notice_some kept desk c.args.receipt.now _ (sym c.is_full.ensures ∙ c.if-is_full.false)
-    (subst (λ (wakes : Wakes). AreProspects kept wakes c.prospects.result) is (record { send = c.prospects.ensures.send; care = c.prospects.ensures.care; claim = c.prospects.ensures.claim }))
+    (subst (λ (wakes : Wakes). AreProspects kept wakes c.prospects_of.result) is (record { send = c.prospects_of.ensures.send; care = c.prospects_of.ensures.care; claim = c.prospects_of.ensures.claim }))
     (c.wakes_sender.ensures ∙ ap (λ (wakes : Wakes). wakes.send && desks.is_parked kinds.Send desk) is)
     (c.wakes_carer.ensures ∙ ap (λ (wakes : Wakes). wakes.care && (desks.is_parked kinds.Care desk && can_care kept.id kept.n h)) is)
     (c.wakes_claimer.ensures ∙ ap (λ (wakes : Wakes). wakes.claim && (desks.is_parked kinds.Claim desk && can_claim h)) is)
