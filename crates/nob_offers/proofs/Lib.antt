@@ -1,4 +1,5 @@
 pub mod Bells
 pub mod Lists
 pub mod Offers
+mod Retries
 pub mod Turns

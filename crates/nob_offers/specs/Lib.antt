@@ -1,2 +1,3 @@
 pub mod Bells
 pub mod Offers
+pub mod Retries

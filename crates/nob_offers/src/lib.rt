@@ -5,6 +5,8 @@
 mod bell;
 pub mod laws;
 mod offered;
+mod retry;
 
 pub use bell::Bell;
 pub use offered::Offered;
+pub use retry::Retry;
