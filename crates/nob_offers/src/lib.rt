@@ -9,4 +9,4 @@ mod retry;
 
 pub use bell::Bell;
 pub use offered::Offered;
-pub use retry::Retry;
+pub use retry::{Retry, Tries};

@@ -4,7 +4,7 @@ mod note;
 mod steps;
 
 use std::sync::atomic::{AtomicBool, Ordering};
-use steps::Tries;
+pub use steps::Tries;
 
 /// Whether the last turn was refused something, which is to be tried again. Only who has the turn
 /// notes that; whoever makes room asks, and takes a turn where it is so.

@@ -3,12 +3,12 @@
 ghost use Rattle.std.specs.Prelude.{◌≡◌, true, false, is_some, MatchOption};
 
 use crate::retry::Retry;
-use crate::retry::note::Noted;
+use crate::retry::note::Note;
 
 /// A turn that tries what waits. It knows whether a refusal was noted before.
 pub struct Tries<'a> {
     retry: &'a Retry,
-    noted: Option<Noted<'a>>,
+    noted: Option<Note<'a>>,
 }
 
 impl<'a> Tries<'a> {
@@ -16,7 +16,7 @@ impl<'a> Tries<'a> {
     pub fn begin(retry: &'a Retry) -> Tries<'a> {
         Tries {
             retry,
-            noted: Noted::read(retry),
+            noted: Note::read(retry),
         }
     }
 
@@ -34,7 +34,7 @@ impl<'a> Tries<'a> {
             }
             None => Some(Tries {
                 retry,
-                noted: Some(Noted::note(retry)),
+                noted: Some(Note::make(retry)),
             }),
         }
     }
@@ -44,7 +44,7 @@ impl<'a> Tries<'a> {
         let Tries { retry, noted } = self;
         match noted {
             Some(noted) => noted.stand(),
-            None => Noted::note(retry).stand(),
+            None => Note::make(retry).stand(),
         }
     }
 
