@@ -87,7 +87,7 @@ fn run_threads<B: Object + Send, R: Threads + Wait + Sync, G: Gate + Sync, A: Ap
             requires { IsSend B.row × IsSync R.row × IsSync G.row }
         {
             let Ok(child) = scope.spawn(move || run_crew(rt, site, gate, crew)) else {
-                site.start(rt, false);
+                site.start.say(rt, false);
                 return (None, run_app(rt, alloc, site, app));
             };
             let remains = run_app(rt, alloc, site, app);
@@ -104,7 +104,7 @@ fn run_app<B: Object, R: Wait, A: App<B>>(
     app: &mut A,
 ) -> Remains<B> {
     let mut node = Node::new(alloc, site, site.seat());
-    let is_whole = site.wait_start(rt);
+    let is_whole = site.start.wait(rt);
     if is_whole {
         app.run(rt, &mut node);
     } else {
@@ -115,7 +115,7 @@ fn run_app<B: Object, R: Wait, A: App<B>>(
         Some(desk) => Some(rest_of(desk)),
         None => None,
     };
-    site.wait_left(rt);
+    site.jobs.wait_left(rt);
     site.end_links(rt);
     Remains {
         seat: node.into_seat(),
@@ -138,7 +138,7 @@ fn finish<B: Object, R: Wait>(
     ensures kept { IfOk result (λ report. summaries.is_chain report.«record»
         ≡ keeps_all config.keep) }
 {
-    let has_failed = site.has_failed();
+    let has_failed = site.failure.has_come();
     let Parts {
         keeper,
         outbox,

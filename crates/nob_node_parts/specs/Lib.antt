@@ -1,1 +1,3 @@
+pub mod Collected
+pub mod Coming
 pub mod Objects

@@ -1,15 +1,30 @@
-//! What the threads of a node share, part by part: what transmits, the objects, and how threads without
-//! work wait.
+//! What the threads of a node share, part by part, each a small machine: how it starts and fails, what
+//! transmits, what collects, what comes over the links, who waits for replies, the objects, and how
+//! threads without work wait.
 #![tactic(auto)]
 
+mod collecting;
+mod failure;
 mod idlers;
+mod inbox;
+mod inboxes;
 mod lookout;
 mod object;
 mod outbox;
 mod pace;
+mod replies;
+mod start;
+mod transmitting;
 
+pub use collecting::{Collecting, Collects};
+pub use failure::Failure;
 pub use idlers::Idlers;
+pub use inbox::Inbox;
+pub use inboxes::Inboxes;
 pub use lookout::Lookout;
 pub use object::{Kept, Left};
 pub use outbox::{Outbox, Pulse};
 pub use pace::Pace;
+pub use replies::{Coming, Replies, coming_by, has_accepted};
+pub use start::Start;
+pub use transmitting::{Rest, Transmitting};

@@ -37,20 +37,20 @@ pub fn run_crew<'x, B: Object + Send, R: Threads + Wait + Sync, G: Gate + Sync>(
             requires { IsSend B.row × IsSync R.row × IsSync G.row }
         {
             let mut is_whole = true;
-            for place in 0..site.links() {
+            for place in 0..site.inboxes.links() {
                 if scope.spawn(move || take(rt, site, place)).is_err() {
                     is_whole = false;
                 }
             }
             for hand in serving {
-                site.come();
+                site.jobs.come();
                 if scope.spawn(move || serve(rt, site, gate, hand)).is_err() {
-                    site.leave(rt);
+                    site.jobs.leave(rt);
                     is_whole = false;
                 }
             }
             if scope.spawn(move || send(rt, site, is_whole)).is_err() {
-                site.start(rt, false);
+                site.start.say(rt, false);
             }
         },
     );

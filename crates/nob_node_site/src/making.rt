@@ -9,7 +9,6 @@ ghost use Rattle.nob_dispatch_lanes.specs.Lanes.{all_given, all_got};
 
 use crate::config::{Config, Ends};
 use crate::crew::Crew;
-use crate::inbox::Inbox;
 use crate::site::Site;
 use nob_agents::{Carer, Sender, Taker, Way};
 use nob_dispatch::{Desk, Errand, Hand, Return};
@@ -18,7 +17,7 @@ use nob_dispatch_objects::{Agent, Object};
 use nob_ids::SpaceId;
 use nob_keeper::{Keeper, Space};
 use nob_link::{PutEnd, TakeEnd};
-use nob_node_parts::{Kept, Outbox};
+use nob_node_parts::{Inbox, Kept, Outbox};
 use std::alloc::Global;
 use std::sync::Mutex;
 

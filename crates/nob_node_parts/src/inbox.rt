@@ -1,9 +1,6 @@
 //! What comes over one link.
 
-use crate::site::Site;
-use nob_agents::{Taker, Turn};
-use nob_dispatch_objects::Object;
-use nob_keeper::KeeperError;
+use nob_agents::{Calls, KeeperError, Taker, Turn};
 use nob_link::TakeEnd;
 use std::sync::Wait;
 
@@ -29,11 +26,11 @@ pub(crate) enum Taken {
 impl Inbox {
     // One turn: what is there now is taken and acted on. Where no entry can be made any more its
     // Taker is let go, with its end of the link.
-    pub(crate) fn turn<B: Object, R: Wait>(&mut self, rt: &R, site: &Site<B>) -> Taken {
+    pub(crate) fn turn<C: Calls, R: Wait>(&mut self, rt: &R, calls: &C) -> Taken {
         let Some(taker) = &mut self.taker else {
             return Taken::End;
         };
-        match taker.turn(rt, site) {
+        match taker.turn(rt, calls) {
             Ok(Turn::Did(_)) => Taken::Some,
             Ok(Turn::Idle) => Taken::Nothing,
             Ok(Turn::End) => Taken::End,
