@@ -8,6 +8,7 @@ use Rattle.nob_model_types.specs.declared.event.Event.TheVariants as events
 use Rattle.nob_model_types.specs.declared.answer.Answer.{Answer}
 use Rattle.nob_model_types.specs.declared.answer.Answer.TheVariants as answers
 use Rattle.nob_model_types.specs.declared.refusal.Refusal.{Refusal}
+use Rattle.nob_keeper.specs.declared.error.KeeperError.TheVariants as keepers
 use Rattle.nob_kept.specs.declared.receipt.Receipt.{Receipt}
 use Rattle.nob_node.specs.declared.error.NodeError.{NodeError}
 use Rattle.nob_node.specs.declared.error.NodeError.TheVariants as errors
@@ -23,6 +24,22 @@ Answered old new event result = (receipt : Receipt) × (new ≡ receipt ∷ old)
 abbrev pub IsRefusal : List Receipt → List Receipt → Event → NodeError → Type 0
 IsRefusal old new event (errors.Refused refusal) = Answered old new event (Err refusal)
 IsRefusal old new event (errors.Keeper error) = Unit {0}
+
+-- what a node says where memory is wanted
+abbrev pub want : NodeError
+want = errors.Keeper keepers.OutOfMemory
+
+-- where memory is wanted no receipt was added
+abbrev pub KeepsOnWant : List Receipt → List Receipt → NodeError → Type 0
+KeepsOnWant old new error = error ≡ want → new ≡ old
+
+-- a hold more was taken on a reference, and given back
+abbrev pub IsTakenBack : List Receipt → List Receipt → WireRep → Type 0
+IsTakenBack old new rep = (taken : Receipt) × (given : Receipt) × (new ≡ given ∷ taken ∷ old) × (taken.event ≡ events.Dup rep) × (given.event ≡ events.Release rep)
+
+-- where memory is wanted no receipt was added, or those by which a hold more was taken on a reference and given back
+abbrev pub KeepsHoldsOnWant : List Receipt → List Receipt → WireRep → NodeError → Type 0
+KeepsHoldsOnWant old new rep error = error ≡ want → (new ≡ old) ⊎ IsTakenBack old new rep
 
 -- an answer is handed on: the reply's status and value, with a hold on each counted reference in it, in reading order; or that none comes
 abbrev pub IsHandedOn : Result Answer Refusal → Returned → Type 0

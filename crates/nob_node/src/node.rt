@@ -1,6 +1,6 @@
 //! A node, as its application sees it.
 
-ghost use Rattle.std.specs.Prelude.{◌≡◌, ◌++◌, List, [], Some, None, Ok, Err, reverse, IfOk, IfErr, OnOk};
+ghost use Rattle.std.specs.Prelude.{◌≡◌, ◌≢◌, ◌++◌, List, [], Some, None, Ok, Err, reverse, IfOk, IfErr, IfSome, OnOk, OnErr};
 ghost use Rattle.nob_model_types.specs.declared.event.Event.TheVariants as events;
 ghost use Rattle.nob_model_types.specs.declared.answer.Answer.TheVariants as answers;
 ghost use Rattle.nob_pickle.specs.declared.value.Value.TheVariants as values;
@@ -77,6 +77,7 @@ impl<'x, B: Object> Node<'x, B> {
         ensures answered { IfOk result (λ answer.
             calls.Answered self.old self.new event.now (Ok (A.as_answer answer))) }
         ensures refused { IfErr result (λ error. calls.IsRefusal self.old self.new event.now error) }
+        ensures want { IfErr result (λ error. calls.KeepsOnWant self.old self.new error) }
     {
         if let Err(error) = Calls::call(self.site, rt, &mut self.seat, event, 0) {
             return Err(NodeError::Keeper(error));
@@ -85,6 +86,24 @@ impl<'x, B: Object> Node<'x, B> {
             Ok(answer) => Ok(answer),
             Err(refusal) => Err(NodeError::Refused(refusal)),
         }
+    }
+
+    // One event of the space, once there is memory for its entry: want of memory is waited out.
+    fn ask_surely<R: Wait, A: AnswerKind>(&mut self, rt: &R, event: &Event) -> Result<A, NodeError>
+        requires kind { kinds.IsAnsweredBy A.is_one event.now }
+        ensures answered { IfOk result (λ answer.
+            calls.Answered self.old self.new event.now (Ok (A.as_answer answer))) }
+        ensures refused { IfErr result (λ error. calls.IsRefusal self.old self.new event.now error) }
+        ensures only { IfErr result (λ error. error ≢ calls.want) }
+    {
+        for _ in rt.forever() {
+            match self.ask(rt, event) {
+                Ok(answer) => return Ok(answer),
+                Err(NodeError::Keeper(KeeperError::OutOfMemory)) => thread::yield_now(),
+                Err(error) => return Err(error),
+            }
+        }
+        unreachable!()
     }
 
     /// Makes an object known: a hold on a reference to it. The object comes back where that fails:
@@ -100,8 +119,8 @@ impl<'x, B: Object> Node<'x, B> {
             Ok(ExportAnswer(rep)) => rep,
             Err(error) => return Err((error, object)),
         };
-        match self.site.add(rt, self.alloc, rep.index, object) {
-            Ok(()) => Ok(Hold { rep }),
+        match self.site.jobs.add(rt, self.alloc, rep.index, object) {
+            Ok(_placed) => Ok(Hold { rep }),
             Err(object) => {
                 self.take_back(rt, rep);
                 Err((NodeError::Keeper(KeeperError::OutOfMemory), object))
@@ -109,10 +128,11 @@ impl<'x, B: Object> Node<'x, B> {
         }
     }
 
-    // Gives up an object that there was no room for.
+    // Gives up an object that there was no room for. Want of memory is waited out: else it would stay
+    // live for good.
     fn take_back<R: Wait>(&mut self, rt: &R, rep: WireRep) {
-        let _ = self.ask::<R, DoneAnswer>(rt, &Event::Release(rep));
-        let _ = self.ask::<R, WithdrawAnswer>(rt, &Event::Withdraw(rep.index));
+        let _ = self.ask_surely::<R, DoneAnswer>(rt, &Event::Release(rep));
+        let _ = self.ask_surely::<R, WithdrawAnswer>(rt, &Event::Withdraw(rep.index));
     }
 
     /// One hold more on the same reference. J1, J2 (S2, S3, S4, S13).
@@ -270,10 +290,13 @@ impl<'x, B: Object> Node<'x, B> {
     }
 
     /// Has a name stand for the reference of a hold at this node's own agent, which keeps a hold of
-    /// its own on it. The reference that the name stood for is given back. It waits while the agent
-    /// runs. J2: S7 where these bytes are no name (1 to 255 bytes), S13 where there are 1,024 names
-    /// and it is none of them, and as `dup`.
-    pub fn bind<R: Wait>(&mut self, rt: &R, name: &[u8], hold: &Hold) -> Result<(), NodeError> {
+    /// its own on it. The reference that the name stood for is given back, for which want of memory
+    /// is waited out. It waits while the agent runs. J2: S7 where these bytes are no name (1 to 255
+    /// bytes), S13 where there are 1,024 names and it is none of them, and as `dup`.
+    pub fn bind<R: Wait>(&mut self, rt: &R, name: &[u8], hold: &Hold) -> Result<(), NodeError>
+        ensures want { IfErr result (λ error.
+            calls.KeepsHoldsOnWant self.old self.new hold.now.rep error) }
+    {
         let name = match Name::new(self.alloc, name) {
             Ok(Some(name)) => name,
             Ok(None) => return Err(NodeError::Refused(Refusal::TooBig)),
@@ -291,8 +314,11 @@ impl<'x, B: Object> Node<'x, B> {
     }
 
     /// Removes a name at this node's own agent, and gives back the reference that it stood for, if
-    /// there is such a name. It waits while the agent runs. J1.
-    pub fn unbind<R: Wait>(&mut self, rt: &R, name: &[u8]) -> Result<(), NodeError> {
+    /// there is such a name. It waits while the agent runs, and where memory is wanted: else that
+    /// hold would be lost. J1, but not for want of memory.
+    pub fn unbind<R: Wait>(&mut self, rt: &R, name: &[u8]) -> Result<(), NodeError>
+        ensures only { IfErr result (λ error. error ≢ calls.want) }
+    {
         let Some(mut agent) = self.site.borrow_agent(rt) else {
             return Err(NO_AGENT);
         };
@@ -311,9 +337,13 @@ impl<'x, B: Object> Node<'x, B> {
         self.site.wait_withdrawn(rt, index);
     }
 
-    // Gives back a hold that the agent had on a reference.
-    fn give_back<R: Wait>(&mut self, rt: &R, rep: WireRep) -> Result<(), NodeError> {
-        let DoneAnswer = self.ask(rt, &Event::Release(rep))?;
+    // Gives back a hold that the agent had on a reference. Want of memory is waited out: else that
+    // hold would be lost.
+    fn give_back<R: Wait>(&mut self, rt: &R, rep: WireRep) -> Result<(), NodeError>
+        ensures given { OnOk result (calls.IsAsked self.old self.new (events.Release rep)) }
+        ensures only { IfErr result (λ error. error ≢ calls.want) }
+    {
+        let DoneAnswer = self.ask_surely(rt, &Event::Release(rep))?;
         Ok(())
     }
 
@@ -325,7 +355,10 @@ impl<'x, B: Object> Node<'x, B> {
         agent: &mut Kept<B>,
         name: Name,
         hold: &Hold,
-    ) -> Result<Option<WireRep>, NodeError> {
+    ) -> Result<Option<WireRep>, NodeError>
+        ensures want { IfErr result (λ error.
+            calls.KeepsHoldsOnWant self.old self.new hold.now.rep error) }
+    {
         if agent.is_full_for(&name) {
             return Err(NodeError::Refused(Refusal::Limit));
         }
@@ -333,7 +366,7 @@ impl<'x, B: Object> Node<'x, B> {
         match agent.put(name, hold.rep) {
             Some(before) => Ok(before),
             None => {
-                let _ = self.give_back(rt, hold.rep);
+                self.give_back(rt, hold.rep)?;
                 Err(NodeError::Keeper(KeeperError::OutOfMemory))
             }
         }
