@@ -5,6 +5,7 @@ ghost use Rattle.std.specs.List.{list_any};
 ghost use Rattle.nob_model_work.specs.Work.{is_call, call_after_reply, call_after_close, without_first};
 ghost use Rattle.nob_model_acting.specs.Acting.{awaits_reply};
 ghost use Rattle.nob_space_calls.specs.Calls.{is_reply, IsAbove, KeepsRooms};
+ghost use Rattle.nob_space_calls.specs.Calls as words;
 
 use crate::ready::Ready;
 use crate::rows::Rows;
@@ -143,6 +144,13 @@ impl Calls {
         ensures { option_copied result ≡ find (is_reply number) self.now.replies }
     {
         self.ready.get(number)
+    }
+
+    /// The call of the reply that became ready first, if one is ready. Constant time.
+    pub fn first_call(&self) -> Option<CallNo>
+        ensures { result ≡ words.first_call self.now.replies }
+    {
+        self.ready.first_call()
     }
 
     /// Takes the first ready reply to a call out. It takes no memory. One look-up, logarithmic in

@@ -4,10 +4,12 @@ ghost use Rattle.std.specs.Prelude.{◌≡◌, ◌+◌, ◌<◌, ◌≤◌, ◌^
 ghost use Rattle.std.specs.List.{list_any};
 ghost use Rattle.nob_model_work.specs.Work.{is_reply_from, without_first};
 ghost use Rattle.nob_space_calls.specs.Calls.{is_reply};
+ghost use Rattle.nob_space_calls.specs.Calls as words;
 
 use crate::firsts::Firsts;
 use crate::index::{note, renew, stamp_if};
 use nob_ids::{CallNo, SpaceId};
+use nob_item::Item;
 use nob_model_types::Message;
 use nob_model_types::message::replies_to;
 use nob_slots::Slots;
@@ -58,6 +60,21 @@ fn is_any_from(messages: &Slots<Message>, peer: SpaceId, call: CallNo) -> bool
         }
     }
     false
+}
+
+// The call that an item is the Reply to.
+fn replied_call(item: &Item) -> Option<CallNo>
+    ensures { result ≡ words.replied_call item.now }
+{
+    match item {
+        Item::Reply { call, .. } => Some(*call),
+        Item::Call { .. }
+        | Item::Settle(_)
+        | Item::Dirty(_)
+        | Item::DirtyOk(_)
+        | Item::DirtyNo(_)
+        | Item::Clean(_) => None,
+    }
 }
 
 impl Ready {
@@ -121,6 +138,17 @@ impl Ready {
             return None;
         };
         self.messages.get(first.stamp)
+    }
+
+    // The call of the reply that became ready first.
+    pub(crate) fn first_call(&self) -> Option<CallNo>
+        ensures { result ≡ words.first_call self.now.replies }
+    {
+        let mut left = self.messages.iter();
+        let Some((_stamp, message)) = left.next() else {
+            return None;
+        };
+        replied_call(&message.item)
     }
 
     // Takes the first reply to a call out.
