@@ -222,6 +222,9 @@ void nob_counts(NobHandle *handle, NobCounts *counts);
 void nob_peer_counts(NobHandle *handle, uint16_t peer, NobPeerCounts *counts);
 /* What nob_act would act on. */
 void nob_front(NobHandle *handle, uint16_t peer, NobFront *front);
+/* The number of the call whose reply became ready first, of those that weren't taken; 0, which no call has, where none is ready. It
+ * says nothing of the calls that a close ended: nob_take_reply says NOB_ENDED of each. */
+uint64_t nob_next_reply(NobHandle *handle);
 
 /* Whether a handle keeps a space, as far as that can be seen: it isn't NULL, and what it has isn't. */
 static inline bool nob_keeps(const NobHandle *handle) { return handle != NULL && handle->at != NULL; }

@@ -9,6 +9,7 @@ use Rattle.nob_model_history.specs.Ends.{calls_at}
 use Rattle.nob_model_history.specs.Transit.{bundles, surrogates}
 use Rattle.nob_model.specs.Tallies.{live_count}
 use Rattle.nob_session.specs.Stands.{Roomy}
+use Rattle.nob_space_calls.specs.Calls.{first_call}
 use Rattle.nob_space.specs.declared.counts.Counts.{Counts}
 use Rattle.nob_space.specs.declared.counts.PeerCounts.{PeerCounts}
 
@@ -36,6 +37,10 @@ peer_counts p h = record { pinned = length (pinned_to p h); unacknowledged = len
 -- the item that an Act on p would act on, with its number: the front of the inbox from p, on an open session
 abbrev pub front : (s n p : ℕ) → History → Option (ℕ × List ℕ)
 front s n p h = if is_peer s n p && not (closed p h.deeds) then right_front (calls_at p h) else None
+
+-- the call of the reply that became ready first, of those that weren't taken
+abbrev pub next_reply : History → Option ℕ
+next_reply h = first_call h.work.replies
 
 -- how many payloads an end holds, where there is one: what is unacknowledged, and what waits
 abbrev pub held_by : Option Roomy → ℕ × ℕ

@@ -13,7 +13,7 @@ ghost use Rattle.nob_space.specs.Counts as words;
 ghost use Rattle.nob_space.specs.Spaces.{StandsFor};
 
 use crate::space::Space;
-use nob_ids::{ItemNo, SpaceId};
+use nob_ids::{CallNo, ItemNo, SpaceId};
 use nob_space_state::Parts;
 
 /// How much a space has of what its memory goes to. It is laid out as C does.
@@ -118,6 +118,15 @@ fn front_of(parts: &Parts, peer: SpaceId) -> Option<(ItemNo, &[u8])>
     }
 }
 
+// The call of the reply that became ready first.
+fn next_reply_of(parts: &Parts) -> Option<CallNo>
+    ensures { (limits : LimitsOf) (D : List Deed)
+        → StandFor limits parts.now D
+        → result ≡ words.next_reply (history_for parts.now D) }
+{
+    parts.calls.first_call()
+}
+
 impl Space {
     /// How much the space has: objects, surrogates, calls and messages. It takes no memory, and
     /// constant time.
@@ -149,5 +158,16 @@ impl Space {
             (history self.now.id self.now.n L) }
     {
         front_of(&self.parts, peer)
+    }
+
+    /// The call whose reply became ready first, of the replies that weren't taken: nothing where
+    /// none is ready. It says nothing of the calls that a close ended: to those there is no reply,
+    /// and a TakeReply of each says so. It takes no memory. It passes the empty slots of the
+    /// replies that were taken before, never more than the ready replies and one.
+    pub fn next_reply(&self) -> Option<CallNo>
+        ensures { (L : List Entry) → StandsFor self.now L
+            → result ≡ words.next_reply (history self.now.id self.now.n L) }
+    {
+        next_reply_of(&self.parts)
     }
 }

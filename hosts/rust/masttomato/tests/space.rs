@@ -178,6 +178,33 @@ fn what_a_space_has_is_counted_and_what_came_is_seen() {
     assert_eq!((two.front(id(1)), two.front(id(2))), (None, None));
 }
 
+// The replies are told in the order of their coming, and a call that a close ended has none.
+#[test]
+fn the_reply_that_became_ready_first_is_the_next() {
+    let [mut one, mut two, mut three] = spaces();
+    let mut call = |peer| one.call(id(peer).agent(), 0, &Value::Unit).unwrap();
+    let [first, second, third] = [2, 3, 2].map(&mut call);
+    exchange(&mut one, &mut two);
+    exchange(&mut one, &mut three);
+    assert_eq!(one.next_reply(), None);
+    let answer = |space: &mut Space| {
+        let job = space.claim().unwrap().job;
+        space.finish(job, &Outcome::Answer(Value::Unit)).unwrap();
+    };
+    answer(&mut three);
+    exchange(&mut one, &mut three);
+    answer(&mut two);
+    exchange(&mut one, &mut two);
+    assert_eq!(one.next_reply(), Some(second));
+    one.take_reply(second).unwrap();
+    assert_eq!(one.next_reply(), Some(first));
+    one.close(id(2)).unwrap();
+    assert_eq!(one.next_reply(), Some(first));
+    one.take_reply(first).unwrap();
+    assert_eq!(one.next_reply(), None);
+    assert_eq!(one.take_reply(third), Ok(CallResult::Ended));
+}
+
 #[test]
 fn a_value_without_a_pickle_is_refused_in_its_turn() {
     let [mut one, mut two] = spaces();

@@ -1588,6 +1588,36 @@ impl Space {
         Some(Front { item: ItemNo::new(front.item), is })
     }
 
+    /// The call whose reply became ready first, of those that weren't taken: what [`take_reply`](Space::take_reply) is
+    /// asked next where many calls are on their way. None where no reply is ready. It says nothing of the calls that
+    /// a close ended: `take_reply` says [`CallResult::Ended`] of each.
+    ///
+    /// ```
+    /// # use masttomato::space::*;
+    /// # fn carry(from: &mut Space, to: &mut Space) -> Result<(), SpaceError> {
+    /// #     for frame in from.transmit(to.id())?.iter() {
+    /// #         to.arrive(&frame)?;
+    /// #     }
+    /// #     while to.act(from.id()).is_ok() || to.settle().is_ok() || to.clean().is_ok() {}
+    /// #     Ok(())
+    /// # }
+    /// # let [one, two] = [1, 2].map(|number| SpaceId::new(number).expect("1 to 32"));
+    /// # let mut caller = Space::new(one, two, Limits::default())?;
+    /// # let mut owner = Space::new(two, two, Limits::default())?;
+    /// let call = caller.call(two.agent(), 0, &Value::Unit)?;
+    /// assert_eq!(caller.next_reply(), None);
+    /// carry(&mut caller, &mut owner)?;
+    /// let job = owner.claim()?;
+    /// owner.finish(job.job, &Outcome::NoMethod)?;
+    /// carry(&mut owner, &mut caller)?;
+    /// assert_eq!(caller.next_reply(), Some(call));
+    /// # Ok::<(), SpaceError>(())
+    /// ```
+    pub fn next_reply(&self) -> Option<CallNo> {
+        let call = self.handle.next_reply();
+        (call > 0).then(|| CallNo::new(call))
+    }
+
     /// Whether a trace or a chain is kept.
     pub(crate) fn is_recorded(&self) -> bool {
         self.trace.is_some() || self.chain.is_some()
