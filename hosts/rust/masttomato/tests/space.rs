@@ -156,7 +156,7 @@ fn what_a_space_has_is_counted_and_what_came_is_seen() {
     let agent = id(1).agent();
     let value = Value::List(vec![Value::Ref(object), Value::Ref(agent), Value::Ref(object)]);
     let call = one.call(id(2).agent(), 7, &value).unwrap();
-    let pinned = PeerCounts { pinned: 1, unacknowledged: 1, inbox: 0 };
+    let pinned = PeerCounts { pinned: 1, unacknowledged: 1, ..PeerCounts::default() };
     assert_eq!(one.peer_counts(id(2)), pinned);
     assert_eq!(one.counts(), Counts { live: 1, calls: 1, ..Counts::default() });
     assert_eq!(two.front(id(1)), None);
@@ -168,10 +168,13 @@ fn what_a_space_has_is_counted_and_what_came_is_seen() {
     assert_eq!(front.is, FrontItem::Call { call, target: 0, method: 7, references: 3 });
     two.act(id(1)).unwrap();
     assert_eq!(two.counts(), Counts { surrogates: 1, waiting: 1, ..Counts::default() });
+    assert_eq!(two.peer_counts(id(1)), PeerCounts { waiting: 1, ..PeerCounts::default() });
     exchange(&mut one, &mut two);
     assert_eq!(two.counts(), Counts { surrogates: 1, ready: 1, ..Counts::default() });
     assert_eq!(one.peer_counts(id(2)).pinned, 0);
+    assert_eq!((two.peer_counts(id(1)).waiting, two.peer_counts(id(1)).ready), (0, 1));
     two.claim().unwrap();
+    assert_eq!(two.peer_counts(id(1)).ready, 0);
     assert_eq!((two.counts().running, two.counts().messages()), (1, 1));
     // A session that has closed has nothing in front.
     two.close(id(1)).unwrap();
