@@ -8,6 +8,8 @@
  * - Where nob_version isn't NOB_VERSION, this header isn't the library's: nothing else of it is called.
  * - A handle begins as NOB_EMPTY. nob_new and nob_begin_at are called on one that keeps nothing, every other
  *   function on one that keeps a space, and none but these two after nob_end. A handle is never copied.
+ *   No function answers another one by a status: NULL, a handle that keeps nothing and a copy of one that was
+ *   ended are undefined. nob_keeps tells the first two; nothing tells the third from one that keeps a space.
  * - What nob_begin_at begins behind covers all that the life before it gave, heard and used (docs/LIVES.md).
  * - One call at a time for each handle, all on the thread that made it.
  * - A pointer with a length is one slice that nothing else writes during the call. It isn't NULL, also
@@ -228,7 +230,8 @@ void nob_front(NobHandle *handle, uint16_t peer, NobFront *front);
  * says nothing of the calls that a close ended: nob_take_reply says NOB_ENDED of each. */
 uint64_t nob_next_reply(NobHandle *handle);
 
-/* Whether a handle keeps a space, as far as that can be seen: it isn't NULL, and what it has isn't. */
+/* Whether a handle keeps a space, as far as that can be seen: it isn't NULL, and what it has isn't. nob_end leaves one
+ * that doesn't; of a copy that was made before this says yes, wrongly. */
 static inline bool nob_keeps(const NobHandle *handle) { return handle != NULL && handle->at != NULL; }
 
 #ifdef __cplusplus
