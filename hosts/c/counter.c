@@ -73,4 +73,5 @@ int main(void) {
   printf("once it is given back: status %u\n", (unsigned)nob_withdraw(&owner, counter, &told));
   nob_end(&owner);
   nob_end(&caller);
+  return nob_keeps(&owner) || nob_keeps(&caller);
 }

@@ -17,9 +17,9 @@ use std::alloc::Global;
 /// program that was written for another one makes no space.
 #[unsafe(no_mangle)]
 pub extern "C" fn nob_version() -> u32
-    ensures { result ≡ 2 }
+    ensures { result ≡ 3 }
 {
-    2
+    3
 }
 
 /// How much the space has: objects, surrogates, calls and messages.
@@ -36,7 +36,8 @@ pub extern "C" fn nob_counts(handle: &mut Handle, alloc: Global, counted: &mut C
     handle.put(host);
 }
 
-/// How much of what the space has is with a peer: all is 0 where the number is no peer's.
+/// How much of what the space has is with a peer: all is 0 where the number is no peer's. It looks
+/// for each message of the peer that waits, and for each of its ready jobs.
 #[unsafe(no_mangle)]
 pub extern "C" fn nob_peer_counts(
     handle: &mut Handle,

@@ -113,6 +113,8 @@ fn counts_of_none() -> PeerCounts
         pinned: 0,
         unacknowledged: 0,
         inbox: 0,
+        waiting: 0,
+        ready: 0,
     }
 }
 
@@ -135,7 +137,8 @@ impl Host {
         self.space.counts()
     }
 
-    /// How much of what the space has is with a peer: all is 0 where the number is no peer's.
+    /// How much of what the space has is with a peer: all is 0 where the number is no peer's. It
+    /// looks for each message of the peer that waits, and for each of its ready jobs.
     pub fn peer_counts(&self, peer: u16) -> PeerCounts
         ensures counts { IsSpace peer → is_peer self.now.space.id self.now.space.n peer ≡ true
             → (L : List Entry) → StandsFor self.now.space L → result

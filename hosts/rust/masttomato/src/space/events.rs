@@ -1522,7 +1522,8 @@ impl Space {
         }
     }
 
-    /// How much of what the space has is with a peer; nothing where the space is no peer. Constant time.
+    /// How much of what the space has is with a peer; nothing where the space is no peer. Linear in the peer's messages
+    /// that wait and its ready jobs.
     ///
     /// ```
     /// # use masttomato::space::*;
@@ -1530,7 +1531,7 @@ impl Space {
     /// # let mut space = Space::new(one, two, Limits::default())?;
     /// let object = space.export()?;
     /// space.call(two.agent(), 0, &Value::Ref(object))?;
-    /// let counts = PeerCounts { pinned: 1, unacknowledged: 1, inbox: 0 };
+    /// let counts = PeerCounts { pinned: 1, unacknowledged: 1, ..PeerCounts::default() };
     /// assert_eq!((space.peer_counts(two), space.peer_counts(one)), (counts, PeerCounts::default()));
     /// # Ok::<(), SpaceError>(())
     /// ```
@@ -1540,6 +1541,8 @@ impl Space {
             pinned: counts.pinned,
             unacknowledged: counts.unacknowledged,
             inbox: counts.inbox,
+            waiting: counts.waiting,
+            ready: counts.ready,
         }
     }
 

@@ -662,7 +662,7 @@ impl Handle {
     /// # let mut handle = Handle::new(1, 2, 8, 16)?;
     /// handle.export();
     /// handle.call(2, 0, 0, &[4, 0, 1, 0, 0, 0, 0, 0, 0, 0, 1]);        // with a reference to 1.1
-    /// let counts = PeerCounts { pinned: 1, unacknowledged: 1, inbox: 0 };
+    /// let counts = PeerCounts { pinned: 1, unacknowledged: 1, ..PeerCounts::default() };
     /// assert_eq!((handle.peer_counts(2), handle.peer_counts(1)), (counts, PeerCounts::default()));
     /// # Ok::<(), u32>(())
     /// ```

@@ -713,7 +713,10 @@ impl Space {
     pub(super) fn peer_counts(&self, peer: u16) -> PeerCounts {
         let pinned = self.pins.keys().filter(|(to, _)| *to == peer).count() as u64;
         let (unacknowledged, inbox) = self.session(peer).held();
-        PeerCounts { pinned, unacknowledged, inbox }
+        let is_from = |message: &&Message| message.peer == peer;
+        let waiting = self.messages.values().filter(is_from).count() as u64;
+        let ready = self.ready.iter().filter(is_from).count() as u64;
+        PeerCounts { pinned, unacknowledged, inbox, waiting, ready }
     }
 
     pub(super) fn front(&self, peer: u16) -> Front {
