@@ -6,7 +6,7 @@
 const ROW = 16; // from one row to the next
 const COLUMN = 320; // from one lifeline to the next, where no more than three bars stand beside each other: the longest words fit between
 const OVER = 40; // rows that are drawn above those in view, and below them
-const CUT_TEXT = 64, CUT_WORDS = 34; // how long the text of a row and the words of an arrow are where they were cut
+const LONGEST = 64; // of the text of a row, as it is where it was cut
 const SVG = 'http://www.w3.org/2000/svg';
 
 // ---- reading the drawing
@@ -23,7 +23,7 @@ const placeAt = y => (y - 120) / ROW;
 // The words of a lost frame, which stand beside it where it is one of the first two of its row: those in the row's text, if it is whole up to there.
 function lostWords(row, place, words) {
   const given = row.text.slice(row.text.indexOf(' = ') + 3).split(', ');
-  return place < given.length - (isCut(row.text, CUT_TEXT) ? 1 : 0) ? given[place] : words;
+  return place < given.length - (isCut(row.text) ? 1 : 0) ? given[place] : words;
 }
 
 // What a drawing shows. A *place* is that of a row among those drawn, from 1; 0 is above them all, one more than there are below.
@@ -84,28 +84,29 @@ function read(text) {
   return run;
 }
 
-const isCut = (text, cut) => text.length === cut && text.endsWith('..');
+// Whether a text was cut short: no whole one ends so.
+const isCut = text => text.endsWith('..');
 
 // Where a text names references: a reference, or the object that a space withdraws or on which its job is, which stands there
 // without its owner. A number at which the text is cut is none, since it may go on.
 const NAMES = /(?<![\d.])\d+\.\d+(?!\d)|(?<=^\d+ withdraw )\d+|(?<= = job \d+ from \d+ call \d+ on )\d+/g;
-function namesIn(text, space, cut) {
-  const whole = isCut(text, cut) ? cut - 2 : Infinity;
+function namesIn(text, space) {
+  const whole = isCut(text) ? text.length - 2 : Infinity;
   return [...text.matchAll(NAMES)].filter(it => it.index + it[0].length < whole)
     .map(it => ({ at: it.index, words: it[0], ref: it[0].includes('.') ? it[0] : `${space}.${it[0]}` }));
 }
 
-function isNamed(text, space, cut, ref) {
-  return (text.includes(ref) || / (withdraw|on) \d/.test(text)) && namesIn(text, space, cut).some(it => it.ref === ref);
+function isNamed(text, space, ref) {
+  return (text.includes(ref) || / (withdraw|on) \d/.test(text)) && namesIn(text, space).some(it => it.ref === ref);
 }
 
 // The places of a reference's life: of the rows that name it, and of both ends of the arrows and bars whose words do.
 function lifeOf(ref) {
   const places = new Set();
-  for (const it of run.rows) if (isNamed(it.text, it.space, CUT_TEXT, ref)) places.add(it.number + 1);
-  for (const it of run.arrows) if (isNamed(it.words, 0, CUT_WORDS, ref)) places.add(it.start).add(it.end);
-  for (const it of run.lost) if (isNamed(it.words, 0, CUT_WORDS, ref)) places.add(it.start);
-  for (const it of run.strays) if (isNamed(it.words, 0, CUT_WORDS, ref)) places.add(it.end);
+  for (const it of run.rows) if (isNamed(it.text, it.space, ref)) places.add(it.number + 1);
+  for (const it of run.arrows) if (isNamed(it.words, 0, ref)) places.add(it.start).add(it.end);
+  for (const it of run.lost) if (isNamed(it.words, 0, ref)) places.add(it.start);
+  for (const it of run.strays) if (isNamed(it.words, 0, ref)) places.add(it.end);
   for (const it of run.bars) if (it.ref === ref) places.add(it.start).add(it.end);
   places.delete(0);
   places.delete(run.rows.length + 1);
@@ -253,8 +254,8 @@ function choose() {
 function say(life) {
   const all = counted(run.rows.length, 'row'), how = life ? [`the life of ${state.life}`] : [];
   for (const [name, word] of Object.entries(state.filters)) if (word !== 'shown') how.push(word === 'alone' ? `${name} alone` : `without ${name}`);
-  const unsure = new Set([...run.arrows, ...run.lost].filter(it => it.words === '' || isCut(it.words, CUT_WORDS)).map(it => it.start));
-  const isUnsure = (row, place) => isCut(row.text, CUT_TEXT) && (!/^\d+ send /.test(row.text) || unsure.has(place));
+  const unsure = new Set([...run.arrows, ...run.lost].filter(it => it.words === '' || isCut(it.words)).map(it => it.start));
+  const isUnsure = (row, place) => isCut(row.text) && (!/^\d+ send /.test(row.text) || unsure.has(place));
   const cut = life ? run.rows.filter((row, i) => isUnsure(row, i + 1) && !life.has(i + 1)).length : 0;
   const more = cut > 0 ? ` (${counted(cut, 'other row has a text', 'other rows have texts')} cut short, and may name it behind the cut)` : '';
   part('shown').textContent = how.length === 0 ? `all ${all}` : `showing ${figure(state.places.length)} of ${all}: ${how.join(', ')}${more}`;
@@ -308,10 +309,10 @@ function make(name, attributes, ...words) {
 }
 
 // A text in parts, of which those that are references can be clicked.
-function withRefs(text, space, cut) {
+function withRefs(text, space) {
   const parts = [];
   let from = 0;
-  for (const it of namesIn(text, space, cut)) {
+  for (const it of namesIn(text, space)) {
     parts.push(text.slice(from, it.at), make('tspan', { class: 'ref', 'data-ref': it.ref }, it.words));
     from = it.at + it.words.length;
   }
@@ -364,10 +365,10 @@ function draw() {
   const isHere = place => from <= state.at[place] && state.at[place] <= to;
 
   for (const place of state.places.slice(from - 1, to)) {
-    const row = run.rows[place - 1], at = y(place), read = row.gloss.slice(1) || textsIn(row.text).slice(1), room = CUT_TEXT - row.text.length - 1;
+    const row = run.rows[place - 1], at = y(place), read = row.gloss.slice(1) || textsIn(row.text).slice(1), room = LONGEST - row.text.length - 1;
     const looks = ['band', state.isHit.has(place) && 'hit', place === state.chosen && 'chosen', row.kind === 'fault' && 'wrong'].filter(it => it).join(' ');
     const band = across => make('rect', { class: looks, x: 0, y: at - ROW / 2, width: across, height: ROW, 'data-row': place });
-    const text = make('text', { class: row.kind, x: 44 + shift, y: at + 4 }, ...withRefs(row.text, row.space, CUT_TEXT));
+    const text = make('text', { class: row.kind, x: 44 + shift, y: at + 4 }, ...withRefs(row.text, row.space));
     if (read && room > 5) text.append(make('tspan', { class: 'as-text' }, ` ${read.length > room ? `${read.slice(0, room - 3)}.."` : read}`));
     texts.append(make('g', { 'data-row': place }, band(state.column), make('text', { class: 'number', x: 36 + shift, y: at + 4 }, numberOf(place)), text));
     layers.bands.push(band(wide));
@@ -429,7 +430,7 @@ function write(layer, boxes, words, before, x, heights, of) {
   const y = heights.find(at => !boxes.some(it => left < it.right && it.left < left + across && Math.abs(at - it.y) < 11));
   if (y === undefined) return;
   boxes.push({ left, right: left + across, y });
-  layer.push(make('rect', { class: 'paper', x: left, y: y - 9, width: across, height: 11 }), make('text', { class: before ? 'words before' : 'words', x, y, ...of }, ...withRefs(words, 0, CUT_WORDS)));
+  layer.push(make('rect', { class: 'paper', x: left, y: y - 9, width: across, height: 11 }), make('text', { class: before ? 'words before' : 'words', x, y, ...of }, ...withRefs(words, 0)));
 }
 
 // Where the run is refused, closed and wrong, and where hits are: bits for each point of the strip at the right.
@@ -489,7 +490,7 @@ function tell(lit) {
   if (lit.row) {
     lines.push([`${numberOf(lit.row)}  ${withTexts(it.text)}`]);
     lines.push([it.kind === 'fault' ? 'This is where the run is wrong, and nobj check says why. ' : '', withTexts(spelt(it)),
-      isCut(it.text, CUT_TEXT) ? ' (The text of this row is cut short.)' : '']);
+      isCut(it.text) ? ' (The text of this row is cut short.)' : '']);
     const came = run.arrows.filter(arrow => arrow.end === lit.row).map(arrow => ['The frame was given ', ...endOf(arrow.start, 'by', arrow.from), '. ']);
     const gave = run.arrows.filter(arrow => arrow.start === lit.row).map(arrow => [`${arrow.words || 'A frame'} arrives `, ...endOf(arrow.end, 'at', arrow.to), '. ']);
     lines.push([...came, ...gave, ...run.lost.filter(lost => lost.start === lit.row).map(lost => `${lost.words} never arrives. `)].flat());

@@ -241,7 +241,7 @@ end_words false end words = shapes.Text styles.Before (record { x = end.x - 8; y
 
 -- the words at the first two
 abbrev pub lost_words : Page → Departure → List Shape
-lost_words page departure = if nat_lt departure.place 2 then end_words (goes_right departure) (lost_end page departure) (cut 14 (frame_label departure.frame)) ∷ [] else []
+lost_words page departure = if nat_lt departure.place 2 then end_words (goes_right departure) (lost_end page departure) (cut 12 (frame_label departure.frame)) ∷ [] else []
 
 -- a lost frame: its line, the cross at its end, and its words
 abbrev pub lost_shapes : Page → Departure → List Shape
@@ -260,14 +260,18 @@ stray_x false x = x + 40
 abbrev pub stray_start : Page → Stray → Point
 stray_start page stray = record { x = stray_x (is_from_left stray) (x_of stray.to); y = y_of page stray.row }
 
+-- a little below it, where its words stand
+abbrev pub below : Point → Point
+below at = record { x = at.x; y = at.y + 5 }
+
 -- the mark there
 abbrev pub void_mark : Point → Shape
 void_mark at = shapes.Line styles.Void (record { x = at.x; y = at.y - 5 }) (record { x = at.x; y = at.y + 5 })
 
 -- the words at the head of what arrives on a side, below it
 abbrev pub side_words : Page → (is_left : Bool) → (to row : ℕ) → List ℕ → Shape
-side_words page true to row words = shapes.Text styles.Before (record { x = x_of to - 10; y = y_of page row + 9 }) words
-side_words page false to row words = shapes.Text styles.Behind (record { x = x_of to + 50; y = y_of page row + 9 }) words
+side_words page true to row words = shapes.Text styles.Before (record { x = x_of to - 10; y = y_of page row + 11 }) words
+side_words page false to row words = shapes.Text styles.Behind (record { x = x_of to + 50; y = y_of page row + 11 }) words
 
 -- the words of an arrow: in front of the lifeline that it comes to, on the side from which it comes
 abbrev pub head_words : Page → Arrow → Shape
@@ -281,7 +285,7 @@ arrows_words page all = map (head_words page) (filter (λ arrow. is_shown page a
 abbrev pub stray_shapes : Page → Stray → List Shape
 stray_shapes page stray =
     if is_shown page stray.row
-    then shapes.Line styles.Stray (stray_start page stray) (point_at page stray.to stray.row) ∷ void_mark (stray_start page stray) ∷ end_words (not (is_from_left stray)) (stray_start page stray) (cut 32 (codes "from nowhere: " ++ frame_label stray.frame)) ∷ []
+    then shapes.Line styles.Stray (stray_start page stray) (point_at page stray.to stray.row) ∷ void_mark (stray_start page stray) ∷ end_words (not (is_from_left stray)) (below (stray_start page stray)) (cut 24 (codes "from nowhere: " ++ frame_label stray.frame)) ∷ []
     else []
 
 -- how a bar is drawn

@@ -127,7 +127,7 @@ fn side_words(page: &Page, is_left: bool, to: SpaceId, row: usize, words: Bytes)
     ensures { result ≡ spec.side_words page.now is_left to row words }
 {
     let x = x_of(to);
-    let y = y_of(page, row as u128) + 9;
+    let y = y_of(page, row as u128) + 11;
     if is_left {
         return Shape::Text(Style::Before, Point { x: x - 10, y }, words);
     }

@@ -161,7 +161,7 @@ fn lost_words(alloc: Global, page: &Page, departure: &Departure) -> Result<Vec<S
     if departure.place >= 2 {
         return Ok(shapes);
     }
-    let words = cut_bytes(alloc, 14, frame_label(alloc, &departure.frame)?)?;
+    let words = cut_bytes(alloc, 12, frame_label(alloc, &departure.frame)?)?;
     let end = lost_end(page, departure);
     shapes.push(end_words(goes_right(departure), end, words))?;
     Ok(shapes)

@@ -45,6 +45,20 @@ fn stray_start(page: &Page, stray: &Stray) -> Point
     Point { x, y }
 }
 
+// A little below it, where its words stand.
+fn below(at: Point) -> Point
+    requires across { (140 ≤ at.x) × (at.x < 2 ^ 15) }
+    requires down { at.y < 2 ^ 70 }
+    ensures place { result ≡ spec.below at }
+    ensures across { (140 ≤ result.x) × (result.x < 2 ^ 15) }
+    ensures down { result.y < 2 ^ 71 }
+{
+    Point {
+        x: at.x,
+        y: at.y + 5,
+    }
+}
+
 // The mark there.
 fn void_mark(at: Point) -> Shape
     requires { (120 ≤ at.y) × (at.y < 2 ^ 70) }
@@ -66,12 +80,12 @@ fn void_mark(at: Point) -> Shape
 // What it is.
 fn stray_label(alloc: Global, frame: &Frame) -> Result<Bytes, AllocError>
     ensures { IfOk result (λ label. label
-        ≡ cut 32 (codes "from nowhere: " ++ label_of frame.now)) }
+        ≡ cut 24 (codes "from nowhere: " ++ label_of frame.now)) }
 {
     let words = frame_label(alloc, frame)?;
     let mut all = b"from nowhere: ".as_slice().to_vec(alloc)?;
     all.extend_from_slice(words.as_slice())?;
-    cut_bytes(alloc, 32, all)
+    cut_bytes(alloc, 24, all)
 }
 
 // One that arrives, where it is shown.
@@ -87,7 +101,7 @@ fn stray_shapes(alloc: Global, page: &Page, stray: &Stray) -> Result<Vec<Shape>,
     let label = stray_label(alloc, &stray.frame)?;
     shapes.push(Shape::Line(Style::Stray, start, end))?;
     shapes.push(void_mark(start))?;
-    shapes.push(end_words(!is_from_left(stray), start, label))?;
+    shapes.push(end_words(!is_from_left(stray), below(start), label))?;
     Ok(shapes)
 }
 

@@ -23,7 +23,7 @@ rect { stroke: none; }
 .refused { fill: #b06000; }
 rect.refused { fill: #fff; stroke: #b06000; stroke-width: 1.5; }
 .closing { fill: #8000a0; font-weight: bold; }
-rect.closing { stroke: #8000a0; stroke-width: 3; transform-box: fill-box; transform-origin: center; transform: rotate(45deg); }
+rect.closing { stroke: #8000a0; stroke-width: 5; stroke-dasharray: 3; stroke-dashoffset: -1.5; }
 .fault { fill: #d00000; font-weight: bold; }
 rect.fault { stroke: #d00000; stroke-width: 6; }
 .sent { stroke: #1c4f9c; stroke-width: 1.6; marker-end: url(#head); }
@@ -38,8 +38,8 @@ rect.fault { stroke: #d00000; stroke-width: 6; }
 .live { fill: #a9d8a0; }
 .listed { fill: url(#hatched); }
 .pinned { fill: url(#striped); }
-.held { font-size: 8px; fill: #222; paint-order: stroke; stroke: #fff; stroke-width: 2px; stroke-opacity: 0.6; }
-.words { fill: #1c4f9c; paint-order: stroke; stroke: #fff; stroke-width: 3px; }
+.held { font-size: 8px; fill: #000; paint-order: stroke; stroke: #fff; stroke-width: 3px; stroke-opacity: 0.8; stroke-linejoin: round; }
+.words { fill: #1c4f9c; paint-order: stroke; stroke: #fff; stroke-width: 7px; stroke-linejoin: round; }
 .before { text-anchor: end; }
 </style>
 <defs>
