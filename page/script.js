@@ -20,10 +20,16 @@ const plain = words => words.includes('&') ? words.replace(/&lt;/g, '<').replace
 const spaceAt = x => (x - 250) / 250;
 const placeAt = y => (y - 120) / ROW;
 
-// The words of a lost frame, which stand beside it where it is one of the first two of its row: those in the row's text, if it is whole up to there.
-function lostWords(row, place, words) {
-  const given = row.text.slice(row.text.indexOf(' = ') + 3).split(', ');
-  return place < given.length - (isCut(row.text) ? 1 : 0) ? given[place] : words;
+// The words of a frame as they stand at an arrow: a method of the agent by its name, and bytes as text if they are one.
+const METHODS = ['put', 'get', 'remove'];
+const atArrow = words => words.replace(/^Call \d+\.0 (\d+) /, (all, method) => `Call agent ${METHODS[method] || method} `)
+  .replace(/ b((?:[2-6][0-9a-f]|7[0-9a-e])+)$/, (all, hex) => ` "${hex.replace(/../g, it => String.fromCharCode(parseInt(it, 16)))}"`);
+
+// Says what a lost frame is: by the row's text, if it is whole up to there; else by the words that stand beside it where it is one of the first two
+// of its row.
+function nameLost(lost, row, words) {
+  const given = row.text.slice(row.text.indexOf(' = ') + 3).split(', '), isWhole = lost.place < given.length - (isCut(row.text) ? 1 : 0);
+  Object.assign(lost, isWhole ? { named: given[lost.place], words: atArrow(given[lost.place]) } : { named: words, words });
 }
 
 // What a drawing shows. A *place* is that of a row among those drawn, from 1; 0 is above them all, one more than there are below.
@@ -52,7 +58,7 @@ function read(text) {
         strayed.words = words;
         strayed = null;
       } else if (crossed && Number(it[3]) === crossed.bottom + 4) {
-        crossed.words = lostWords(run.rows[crossed.start - 1], crossed.place, words);
+        nameLost(crossed, run.rows[crossed.start - 1], words);
         crossed = null;
       } else {
         // behind all else stand the words of the arrows whose heads are shown, in their order
@@ -66,9 +72,9 @@ function read(text) {
       if (kind.startsWith('lost')) {
         const at = placeAt(bottom - 5), row = run.rows[at - 1], reach = Math.abs(right - 250 - 250 * row.space) - 40;
         const place = reach < 220 ? reach / 110 : 2 + (reach - 220) / 12, before = run.lost.filter(other => other.start === at).length;
-        add(run.lost, { style: kind, from: row.space, start: at, right: right > 250 + 250 * row.space, down: 12 + 12 * Math.min(before, 6), place, bottom, words: '' });
+        add(run.lost, { style: kind, from: row.space, start: at, right: right > 250 + 250 * row.space, down: 12 + 12 * Math.min(before, 6), place, bottom });
         crossed = run.lost[run.lost.length - 1];
-        crossed.words = lostWords(row, place, '');
+        nameLost(crossed, row, '');
       } else if (kind === 'sent stray') {
         add(run.strays, { to: spaceAt(right), end: placeAt(bottom), left: x < right, words: '' });
         strayed = run.strays[run.strays.length - 1];
@@ -105,7 +111,7 @@ function lifeOf(ref) {
   const places = new Set();
   for (const it of run.rows) if (isNamed(it.text, it.space, ref)) places.add(it.number + 1);
   for (const it of run.arrows) if (isNamed(it.words, 0, ref)) places.add(it.start).add(it.end);
-  for (const it of run.lost) if (isNamed(it.words, 0, ref)) places.add(it.start);
+  for (const it of run.lost) if (isNamed(it.named, 0, ref)) places.add(it.start);
   for (const it of run.strays) if (isNamed(it.words, 0, ref)) places.add(it.end);
   for (const it of run.bars) if (it.ref === ref) places.add(it.start).add(it.end);
   places.delete(0);
@@ -254,7 +260,7 @@ function choose() {
 function say(life) {
   const all = counted(run.rows.length, 'row'), how = life ? [`the life of ${state.life}`] : [];
   for (const [name, word] of Object.entries(state.filters)) if (word !== 'shown') how.push(word === 'alone' ? `${name} alone` : `without ${name}`);
-  const unsure = new Set([...run.arrows, ...run.lost].filter(it => it.words === '' || isCut(it.words)).map(it => it.start));
+  const unsure = new Set([...run.arrows, ...run.lost].filter(it => it.words === '' || isCut(it.named || it.words)).map(it => it.start));
   const isUnsure = (row, place) => isCut(row.text) && (!/^\d+ send /.test(row.text) || unsure.has(place));
   const cut = life ? run.rows.filter((row, i) => isUnsure(row, i + 1) && !life.has(i + 1)).length : 0;
   const more = cut > 0 ? ` (${counted(cut, 'other row has a text', 'other rows have texts')} cut short, and may name it behind the cut)` : '';
