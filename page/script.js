@@ -229,11 +229,11 @@ function choose() {
   const all = run.rows.length, life = state.life && lifeOf(state.life);
   const filters = word => Object.keys(state.filters).filter(it => state.filters[it] === word).map(it => FILTERS[it]);
   const hidden = filters('hidden'), alone = filters('alone');
-  const isWanted = row => row.kind === 'fault' || (!hidden.some(it => it(row)) && (alone.length === 0 || alone.some(it => it(row))));
+  const isWanted = row => !hidden.some(it => it(row)) && (alone.length === 0 || alone.some(it => it(row)));
   state.places = [];
   state.at = new Float64Array(all + 2);
   run.rows.forEach((row, i) => {
-    const is = (!life || life.has(i + 1)) && isWanted(row);
+    const is = row.kind === 'fault' || ((!life || life.has(i + 1)) && isWanted(row));
     state.at[i + 1] = is ? state.places.push(i + 1) : state.places.length + 0.5;
   });
   state.at[all + 1] = state.places.length + 1;
