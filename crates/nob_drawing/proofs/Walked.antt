@@ -1,5 +1,6 @@
 -- One step more of what is walked.
-use Rattle.std.proofs.Common.{◌≡◌, ℕ, ◌<◌, ◌+◌, List, [], ◌∷◌, ◌++◌, length, drop, get_or, Option, refl, sym, ap, ◌∙◌, append_assoc}
+use Rattle.std.proofs.Common.{◌≡◌, ℕ, ◌<◌, ◌+◌, List, [], ◌∷◌, ◌++◌, length, drop, get_or, flat_map, Option, refl, sym, ap, ◌∙◌, append_assoc}
+use Rattle.std.proofs.lemmas.List.{drop_more}
 use Rattle.nob_pickle.specs.Shape.{tree, forest}
 use Rattle.nob_pickle.specs.declared.value.Value.{Value}
 use Rattle.nob_pickle.proofs.Written.{first_ahead}
@@ -24,4 +25,15 @@ elements_next vs i v now next all less same one so_far =
     ap (λ (words : List ℕ). words ++ left) one
     ∙ append_assoc now (element_gloss (tree v)) left
     ∙ ap (λ (us : List Value). now ++ elements_gloss (forest us)) (sym (first_ahead vs i v less same))
+    ∙ so_far
+
+-- what is drawn of a list, with one more of it
+pub shapes_next : {X : Type 0} (F : X → List Shape) (xs : List X) (i : ℕ) (x : X) (now next all : List Shape) → i < length xs → x ≡ get_or xs i x → next ≡ now ++ F x
+    → now ++ flat_map F (drop i xs) ≡ all → next ++ flat_map F (drop (i + 1) xs) ≡ all
+shapes_next {X} F xs i x now next all less same one so_far =
+    let left : List Shape = flat_map F (drop (i + 1) xs) in
+    let ahead : drop i xs ≡ x ∷ drop (i + 1) xs = drop_more xs i x less ∙ ap (λ (y : X). y ∷ drop (i + 1) xs) (sym same) in
+    ap (λ (shapes : List Shape). shapes ++ left) one
+    ∙ append_assoc now (F x) left
+    ∙ ap (λ (ys : List X). now ++ flat_map F ys) (sym ahead)
     ∙ so_far

@@ -1,6 +1,7 @@
 //! What stands beside the text of an entry: names in place of numbers, and bytes as text.
 
 ghost use Rattle.std.specs.Prelude.{◌≡◌, ◌++◌, ◌∷◌, [], IfOk, OnOk, flat_map};
+ghost use Rattle.std.specs.List.{list_all};
 ghost use Rattle.std.specs.String.{string_bytes};
 ghost use Rattle.nob_pickle.specs.Shape.{tree, forest};
 ghost use Rattle.nob_model_types.specs.Sessions.{item_spelt as item_spelt_of};
@@ -21,11 +22,21 @@ fn is_sign(byte: u8) -> bool
     32 <= byte && byte <= 126
 }
 
+// Whether all of these bytes are.
+fn are_signs(text: &[u8]) -> bool
+    ensures { result ≡ list_all spec.is_sign text.now }
+{
+    text.iter().all(|byte| is_sign(*byte))
+}
+
 // Whether bytes are a text that can be printed.
 pub(crate) fn is_printable(text: &[u8]) -> bool
     ensures { result ≡ spec.is_printable text.now }
 {
-    !text.is_empty() && text.iter().all(|byte| is_sign(*byte))
+    match text {
+        [] => false,
+        [byte, others @ ..] => is_sign(*byte) && are_signs(others),
+    }
 }
 
 // Puts a text in quotes behind another.
