@@ -28,10 +28,10 @@ rect.closing { stroke: #8000a0; stroke-width: 5; stroke-dasharray: 3; stroke-das
 rect.fault { stroke: #d00000; stroke-width: 6; }
 .sent { stroke: #1c4f9c; stroke-width: 1.6; marker-end: url(#head); }
 .took-nothing { stroke: #b4b4b4; marker-end: url(#grey); }
-.again { stroke-width: 0.7; }
 .part { stroke-dasharray: 2 3; }
 .open { stroke-dasharray: 2 3; marker-end: none; }
 .lost { stroke: #1c4f9c; stroke-width: 1.6; }
+.again { stroke-width: 0.7; }
 .cross { stroke: #d00000; stroke-width: 1.6; }
 .stray { stroke: #d00000; marker-end: url(#red); }
 .void { stroke: #d00000; stroke-width: 2.4; }
