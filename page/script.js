@@ -6,42 +6,60 @@
 const ROW = 16; // from one row to the next
 const COLUMN = 320; // from one lifeline to the next, where no more than three bars stand beside each other: the longest words fit between
 const OVER = 40; // rows that are drawn above those in view, and below them
-const CUT_TEXT = 64, CUT_WORDS = 34; // how long the text of a row and the words of an arrow are where they were cut
+const LONGEST = 64; // of the text of a row, as it is where it was cut
 const SVG = 'http://www.w3.org/2000/svg';
 
 // ---- reading the drawing
 
 const LINE = /^<line class='([a-z -]+)' x1='(\d+)' y1='(\d+)' x2='(\d+)' y2='(\d+)'\/>$/;
-const BOX = /^<rect class='(live|listed|pinned)' x='(\d+)' y='(\d+)' width='9' height='(\d+)'\/>$/;
+const BOX = /^<rect class='(live|listed|pinned)' x='(\d+)' y='(\d+)' width='9' height='(\d+)'><title>(.*)<\/title><\/rect>$/;
 const TEXT = /^<text class='([a-z ]+)' x='(\d+)' y='(\d+)'>(.*)<\/text>$/;
-const TURNED = /^<text class='held' transform='translate\(\d+ \d+\) rotate\(90\)'>(.*)<\/text>$/;
+const SHOWN = /^<text class='shown' x='12' y='38'>shown: (.*)<\/text>$/;
 
 const plain = words => words.includes('&') ? words.replace(/&lt;/g, '<').replace(/&gt;/g, '>').replace(/&amp;/g, '&') : words;
 const spaceAt = x => (x - 250) / 250;
-const placeAt = y => (y - 80) / ROW;
+const placeAt = y => (y - 120) / ROW;
+
+// The words of a frame as they stand at an arrow: a method of the agent by its name, and bytes as text if they are one.
+const METHODS = ['put', 'get', 'remove'];
+const atArrow = words => words.replace(/^Call \d+\.0 (\d+) /, (all, method) => `Call agent ${METHODS[method] || method} `)
+  .replace(/ b((?:[2-6][0-9a-f]|7[0-9a-e])+)$/, (all, hex) => ` "${hex.replace(/../g, it => String.fromCharCode(parseInt(it, 16)))}"`);
+
+// Says what a lost frame is: by the row's text, if it is whole up to there; else by the words that stand beside it where it is one of the first two
+// of its row.
+function nameLost(lost, row, words) {
+  const given = row.text.slice(row.text.indexOf(' = ') + 3).split(', '), isWhole = lost.place < given.length - (isCut(row.text) ? 1 : 0);
+  Object.assign(lost, isWhole ? { named: given[lost.place], words: atArrow(given[lost.place]) } : { named: words, words });
+}
 
 // What a drawing shows. A *place* is that of a row among those drawn, from 1; 0 is above them all, one more than there are below.
 function read(text) {
-  const run = { first: 1, spaces: 0, rows: [], bars: [], arrows: [], lost: [] }, lines = text.split('\n');
+  const run = { shown: '', spaces: 0, rows: [], bars: [], arrows: [], lost: [], strays: [] }, lines = text.split('\n');
   const add = (list, it) => list.push(Object.assign(it, { number: list.length }));
-  let i = lines.findIndex(line => line.startsWith("<line class='life'")), crossed = false, heads = null, headed = 0;
+  let i = lines.findIndex(line => line.startsWith("<line class='life'")), crossed = null, strayed = null, number = 0, heads = null, headed = 0;
   if (i < 0 || !lines[0].startsWith('<svg ')) throw new Error('this is no drawing');
+  const shown = lines.slice(0, i).map(line => SHOWN.exec(line)).find(it => it);
+  if (shown) run.shown = plain(shown[1]);
   for (; lines[i] !== '</svg>'; i++) {
     const line = lines[i], kind = line && line.slice(13, line.indexOf("'", 13));
     let it;
     if (line === undefined) throw new Error('the drawing has no end');
-    if (kind === 'guide' || kind === 'life' || (kind === 'number' && run.rows.length > 0)) continue;
+    if (kind === 'guide' || kind === 'life' || kind === 'held' || kind === 'void') continue;
     if (/^<rect class='[arcf]/.test(line)) continue; // the point of a row
     if ((it = TEXT.exec(line))) {
       const words = plain(it[4]);
-      if (kind === 'number') run.first = Number(words);
+      if (kind === 'number') number = Number(words);
       else if (kind === 'name') run.spaces++;
+      else if (kind === 'gloss') run.rows[run.rows.length - 1].gloss = words;
       else if (!kind.startsWith('words')) {
-        add(run.rows, { kind, text: words, space: parseInt(words, 10) });
+        add(run.rows, { kind, text: words, space: parseInt(words, 10), row: number, gloss: '' });
         if (placeAt(it[3] - 4) !== run.rows.length) throw new Error(`a row stands where another is due: ${line}`);
-      } else if (crossed) {
-        run.lost[run.lost.length - 1].words = words;
-        crossed = false;
+      } else if (strayed) {
+        strayed.words = words;
+        strayed = null;
+      } else if (crossed && Number(it[3]) === crossed.bottom + 4) {
+        nameLost(crossed, run.rows[crossed.start - 1], words);
+        crossed = null;
       } else {
         // behind all else stand the words of the arrows whose heads are shown, in their order
         heads = heads || run.arrows.filter(arrow => arrow.end <= run.rows.length);
@@ -50,43 +68,51 @@ function read(text) {
       }
     } else if ((it = LINE.exec(line))) {
       const [x, y, right, bottom] = it.slice(2).map(Number), start = placeAt(y), from = spaceAt(x);
-      if (kind === 'cross') crossed = true;
-      else if (kind.startsWith('lost')) add(run.lost, { style: kind, from, start, right: right > x, down: bottom - y, words: '' });
-      else add(run.arrows, { style: kind, from, start, to: spaceAt(right), end: placeAt(bottom), words: '' });
+      if (kind === 'cross') continue;
+      if (kind.startsWith('lost')) {
+        const at = placeAt(bottom - 5), row = run.rows[at - 1], reach = Math.abs(right - 250 - 250 * row.space) - 40;
+        const place = reach < 220 ? reach / 110 : 2 + (reach - 220) / 12, before = run.lost.filter(other => other.start === at).length;
+        add(run.lost, { style: kind, from: row.space, start: at, right: right > 250 + 250 * row.space, down: 12 + 12 * Math.min(before, 6), place, bottom });
+        crossed = run.lost[run.lost.length - 1];
+        nameLost(crossed, row, '');
+      } else if (kind === 'sent stray') {
+        add(run.strays, { to: spaceAt(right), end: placeAt(bottom), left: x < right, words: '' });
+        strayed = run.strays[run.strays.length - 1];
+      } else add(run.arrows, { style: kind, from, start, to: spaceAt(right), end: placeAt(bottom), words: '' });
     } else if ((it = BOX.exec(line))) {
-      const turned = TURNED.exec(lines[++i]), x = it[2] - 258, start = placeAt(it[3]);
-      if (!turned) throw new Error(`a bar without words: ${line}`);
-      const words = plain(turned[1]), ref = words.split(' ')[0];
+      const x = it[2] - 258, start = placeAt(it[3]), words = plain(it[5]), ref = words.split(' ')[0];
       // the bars of an object and of its clients stand at its owner; a pin stands where its lane is a whole number
-      let space = kind === 'pinned' ? Math.floor(x / 250) : parseInt(ref, 10);
+      let space = it[1] === 'pinned' ? Math.floor(x / 250) : parseInt(ref, 10);
       while ((x - 250 * space) % 11 !== 0 && space > 1) space--;
-      add(run.bars, { style: kind, space, lane: (x - 250 * space) / 11, start, end: start + it[4] / ROW, words, ref });
+      add(run.bars, { style: it[1], space, lane: (x - 250 * space) / 11, start, end: start + it[4] / ROW, words, ref });
     } else throw new Error(`no line of a drawing: ${line}`);
   }
   return run;
 }
 
-const isCut = (text, cut) => text.length === cut && text.endsWith('..');
+// Whether a text was cut short: no whole one ends so.
+const isCut = text => text.endsWith('..');
 
 // Where a text names references: a reference, or the object that a space withdraws or on which its job is, which stands there
 // without its owner. A number at which the text is cut is none, since it may go on.
 const NAMES = /(?<![\d.])\d+\.\d+(?!\d)|(?<=^\d+ withdraw )\d+|(?<= = job \d+ from \d+ call \d+ on )\d+/g;
-function namesIn(text, space, cut) {
-  const whole = isCut(text, cut) ? cut - 2 : Infinity;
+function namesIn(text, space) {
+  const whole = isCut(text) ? text.length - 2 : Infinity;
   return [...text.matchAll(NAMES)].filter(it => it.index + it[0].length < whole)
     .map(it => ({ at: it.index, words: it[0], ref: it[0].includes('.') ? it[0] : `${space}.${it[0]}` }));
 }
 
-function isNamed(text, space, cut, ref) {
-  return (text.includes(ref) || / (withdraw|on) \d/.test(text)) && namesIn(text, space, cut).some(it => it.ref === ref);
+function isNamed(text, space, ref) {
+  return (text.includes(ref) || / (withdraw|on) \d/.test(text)) && namesIn(text, space).some(it => it.ref === ref);
 }
 
 // The places of a reference's life: of the rows that name it, and of both ends of the arrows and bars whose words do.
 function lifeOf(ref) {
   const places = new Set();
-  for (const it of run.rows) if (isNamed(it.text, it.space, CUT_TEXT, ref)) places.add(it.number + 1);
-  for (const it of run.arrows) if (isNamed(it.words, 0, CUT_WORDS, ref)) places.add(it.start).add(it.end);
-  for (const it of run.lost) if (isNamed(it.words, 0, CUT_WORDS, ref)) places.add(it.start);
+  for (const it of run.rows) if (isNamed(it.text, it.space, ref)) places.add(it.number + 1);
+  for (const it of run.arrows) if (isNamed(it.words, 0, ref)) places.add(it.start).add(it.end);
+  for (const it of run.lost) if (isNamed(it.named, 0, ref)) places.add(it.start);
+  for (const it of run.strays) if (isNamed(it.words, 0, ref)) places.add(it.end);
   for (const it of run.bars) if (it.ref === ref) places.add(it.start).add(it.end);
   places.delete(0);
   places.delete(run.rows.length + 1);
@@ -118,7 +144,7 @@ const EVENTS = [
 ];
 
 const FRAMES = [
-  [/^Call (\S+) (\d+) (.*)$/, 'a call of method $2 of $1 with $3'], [/^Settle (\d+)$/, 'word that the references of item $1 are resolved'],
+  [/^Call agent (\S+) (.*)$/, "a call of the agent's method $1 with $2"], [/^Call (\S+) (\d+) (.*)$/, 'a call of method $2 of $1 with $3'], [/^Settle (\d+)$/, 'word that the references of item $1 are resolved'],
   [/^Reply (\d+) 0 (.*)$/, 'the answer to call $1, which is $2'], [/^Reply (\d+) 1 (.*)$/, 'the fault of call $1, which is $2'],
   [/^Reply (\d+) 2 .*$/, 'word that there is no method for call $1'], [/^Reply (\d+) 3 .*$/, 'word that a reference of call $1 was lost'],
   [/^Dirty (\S+)$/, 'the wish to be listed for $1'], [/^DirtyOk (\S+)$/, 'word that it is listed for $1'],
@@ -194,7 +220,7 @@ const state = {
 let run, marks = [];
 
 const scale = () => ROW * state.zoom;
-const numberOf = place => run.first + place - 1;
+const numberOf = place => run.rows[place - 1].row;
 const isShown = place => Number.isInteger(state.at[place]);
 const placeAtTop = () => state.places[Math.max(0, Math.ceil(view.scrollTop / scale()) - 1)] || 1;
 
@@ -203,11 +229,11 @@ function choose() {
   const all = run.rows.length, life = state.life && lifeOf(state.life);
   const filters = word => Object.keys(state.filters).filter(it => state.filters[it] === word).map(it => FILTERS[it]);
   const hidden = filters('hidden'), alone = filters('alone');
-  const isWanted = row => row.kind === 'fault' || (!hidden.some(it => it(row)) && (alone.length === 0 || alone.some(it => it(row))));
+  const isWanted = row => !hidden.some(it => it(row)) && (alone.length === 0 || alone.some(it => it(row)));
   state.places = [];
   state.at = new Float64Array(all + 2);
   run.rows.forEach((row, i) => {
-    const is = (!life || life.has(i + 1)) && isWanted(row);
+    const is = row.kind === 'fault' || ((!life || life.has(i + 1)) && isWanted(row));
     state.at[i + 1] = is ? state.places.push(i + 1) : state.places.length + 0.5;
   });
   state.at[all + 1] = state.places.length + 1;
@@ -217,7 +243,7 @@ function choose() {
   for (const it of run.arrows) if (isShown(it.start) && isShown(it.end)) parts.add(it.from).add(it.to);
   for (const bar of state.bars) used[bar.space].add(bar.lane);
   state.lanes = used.map(it => new Map([...it].sort((a, b) => a - b).map((lane, i) => [lane, i])));
-  state.column = 470 + 7 * Math.max(0, String(numberOf(all)).length - 4);
+  state.column = 470 + 7 * Math.max(0, (all > 0 ? String(numberOf(all)).length : 0) - 4);
   let x = state.column + 30;
   state.columns = state.lanes.map((lanes, space) => {
     const it = { x, more: Math.max(0, 11 * lanes.size - 36), space, isThere: space > 0 && (!life || parts.has(space) || lanes.size > 0) };
@@ -234,8 +260,8 @@ function choose() {
 function say(life) {
   const all = counted(run.rows.length, 'row'), how = life ? [`the life of ${state.life}`] : [];
   for (const [name, word] of Object.entries(state.filters)) if (word !== 'shown') how.push(word === 'alone' ? `${name} alone` : `without ${name}`);
-  const unsure = new Set([...run.arrows, ...run.lost].filter(it => it.words === '' || isCut(it.words, CUT_WORDS)).map(it => it.start));
-  const isUnsure = (row, place) => isCut(row.text, CUT_TEXT) && (!/^\d+ send /.test(row.text) || unsure.has(place));
+  const unsure = new Set([...run.arrows, ...run.lost].filter(it => it.words === '' || isCut(it.named || it.words)).map(it => it.start));
+  const isUnsure = (row, place) => isCut(row.text) && (!/^\d+ send /.test(row.text) || unsure.has(place));
   const cut = life ? run.rows.filter((row, i) => isUnsure(row, i + 1) && !life.has(i + 1)).length : 0;
   const more = cut > 0 ? ` (${counted(cut, 'other row has a text', 'other rows have texts')} cut short, and may name it behind the cut)` : '';
   part('shown').textContent = how.length === 0 ? `all ${all}` : `showing ${figure(state.places.length)} of ${all}: ${how.join(', ')}${more}`;
@@ -244,7 +270,7 @@ function say(life) {
 }
 
 // What is searched of a row, made when it is first wanted.
-const searched = row => row.searched || (row.searched = (row.text + textsIn(row.text)).toLowerCase());
+const searched = row => row.searched || (row.searched = (row.text + textsIn(row.text) + row.gloss).toLowerCase());
 
 // Looks among the rows shown for what is typed: words in a row's text, a reference, or a row's number.
 function find() {
@@ -289,10 +315,10 @@ function make(name, attributes, ...words) {
 }
 
 // A text in parts, of which those that are references can be clicked.
-function withRefs(text, space, cut) {
+function withRefs(text, space) {
   const parts = [];
   let from = 0;
-  for (const it of namesIn(text, space, cut)) {
+  for (const it of namesIn(text, space)) {
     parts.push(text.slice(from, it.at), make('tspan', { class: 'ref', 'data-ref': it.ref }, it.words));
     from = it.at + it.words.length;
   }
@@ -345,10 +371,10 @@ function draw() {
   const isHere = place => from <= state.at[place] && state.at[place] <= to;
 
   for (const place of state.places.slice(from - 1, to)) {
-    const row = run.rows[place - 1], at = y(place), read = textsIn(row.text).slice(1), room = CUT_TEXT - row.text.length - 1;
+    const row = run.rows[place - 1], at = y(place), read = row.gloss.slice(1) || textsIn(row.text).slice(1), room = LONGEST - row.text.length - 1;
     const looks = ['band', state.isHit.has(place) && 'hit', place === state.chosen && 'chosen', row.kind === 'fault' && 'wrong'].filter(it => it).join(' ');
     const band = across => make('rect', { class: looks, x: 0, y: at - ROW / 2, width: across, height: ROW, 'data-row': place });
-    const text = make('text', { class: row.kind, x: 44 + shift, y: at + 4 }, ...withRefs(row.text, row.space, CUT_TEXT));
+    const text = make('text', { class: row.kind, x: 44 + shift, y: at + 4 }, ...withRefs(row.text, row.space));
     if (read && room > 5) text.append(make('tspan', { class: 'as-text' }, ` ${read.length > room ? `${read.slice(0, room - 3)}.."` : read}`));
     texts.append(make('g', { 'data-row': place }, band(state.column), make('text', { class: 'number', x: 36 + shift, y: at + 4 }, numberOf(place)), text));
     layers.bands.push(band(wide));
@@ -377,6 +403,13 @@ function draw() {
     layers.touch.push(make('line', { class: 'touch', 'data-lost': it.number, ...line }));
     write(layers.words, boxes, it.words, !it.right, it.right ? end + 10 : end - 8, [4, 10, -2, 16].map(more => down + more), { ...of, 'data-lost': it.number });
   }
+  for (const it of run.strays) {
+    if (!isShown(it.end) || !isHere(it.end)) continue;
+    const end = x(it.to), start = it.left ? end - 40 : end + 40 + columns[it.to].more, at = y(it.end), of = { 'data-of': `stray${it.number}` };
+    layers.lines.push(make('line', { class: 'sent stray', ...of, x1: start, y1: at, x2: end, y2: at, 'marker-end': 'url(#red)' }),
+      make('path', { class: 'cross', d: `M${start},${at - 5} l0,10` }));
+    write(layers.words, boxes, it.words, it.left, it.left ? start - 8 : start + 8, [at + 4], { ...of, 'data-row': it.end });
+  }
   picture.replaceChildren(...Object.values(layers).flat());
   part('texts').replaceChildren(texts);
   lightUp();
@@ -403,7 +436,7 @@ function write(layer, boxes, words, before, x, heights, of) {
   const y = heights.find(at => !boxes.some(it => left < it.right && it.left < left + across && Math.abs(at - it.y) < 11));
   if (y === undefined) return;
   boxes.push({ left, right: left + across, y });
-  layer.push(make('rect', { class: 'paper', x: left, y: y - 9, width: across, height: 11 }), make('text', { class: before ? 'words before' : 'words', x, y, ...of }, ...withRefs(words, 0, CUT_WORDS)));
+  layer.push(make('rect', { class: 'paper', x: left, y: y - 9, width: across, height: 11 }), make('text', { class: before ? 'words before' : 'words', x, y, ...of }, ...withRefs(words, 0)));
 }
 
 // Where the run is refused, closed and wrong, and where hits are: bits for each point of the strip at the right.
@@ -463,7 +496,7 @@ function tell(lit) {
   if (lit.row) {
     lines.push([`${numberOf(lit.row)}  ${withTexts(it.text)}`]);
     lines.push([it.kind === 'fault' ? 'This is where the run is wrong, and nobj check says why. ' : '', withTexts(spelt(it)),
-      isCut(it.text, CUT_TEXT) ? ' (The text of this row is cut short.)' : '']);
+      isCut(it.text) ? ' (The text of this row is cut short.)' : '']);
     const came = run.arrows.filter(arrow => arrow.end === lit.row).map(arrow => ['The frame was given ', ...endOf(arrow.start, 'by', arrow.from), '. ']);
     const gave = run.arrows.filter(arrow => arrow.start === lit.row).map(arrow => [`${arrow.words || 'A frame'} arrives `, ...endOf(arrow.end, 'at', arrow.to), '. ']);
     lines.push([...came, ...gave, ...run.lost.filter(lost => lost.start === lit.row).map(lost => `${lost.words} never arrives. `)].flat());
@@ -487,7 +520,7 @@ function tell(lit) {
 
 // Does what the address asks for behind `#`: a life, a row.
 function obey() {
-  const asked = new URLSearchParams(location.hash.slice(1)), place = Number(asked.get('row')) - run.first + 1;
+  const asked = new URLSearchParams(location.hash.slice(1)), place = run.rows.findIndex(row => row.row === Number(asked.get('row'))) + 1;
   const life = /^\d+\.\d+$/.test(asked.get('life')) ? asked.get('life') : null, isNew = life !== state.life;
   if (isNew) change(() => { state.life = life; });
   if (isNew && life) view.scrollTop = 0;
@@ -522,8 +555,7 @@ function zoomTo(zoom) {
 }
 
 function title(of, wrong) {
-  const isPart = run.first > 1 || of.part === 'yes', all = run.rows.length;
-  const what = !isPart ? counted(all, 'entry', 'entries') : all > 0 ? `rows ${figure(run.first)} to ${figure(numberOf(all))}` : 'no rows';
+  const what = run.shown || counted(run.rows.length, 'entry', 'entries');
   part('title').textContent = document.title = `${of.name ? `${of.name}: ` : ''}a run of ${counted(run.spaces, 'space')}, ${what}`;
   const isAccepted = wrong === 0 && of.status === '0';
   part('verdict').className = isAccepted ? '' : 'no';

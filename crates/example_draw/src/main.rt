@@ -1,8 +1,8 @@
-//! The program `example_draw`: traces, read one after the other from standard input, drawn. It writes
-//! one SVG. Two numbers on its command line are the first and the last row that are drawn.
+//! The program `example_draw`: traces, read one after the other from standard input, drawn. It
+//! writes one SVG. Two numbers on its command line are the first and the last row that are drawn.
 #![tactic(auto)]
 
-use nob_demo_traces::drawing::{Ending, Part, play};
+use nob_demo_traces::drawing::{Choice, Ending, Part, play};
 use std::alloc::Global;
 use std::io::{Read, Write};
 use std::process::ExitCode;
@@ -34,7 +34,11 @@ fn part_in(rt: &HostRuntime) -> io::Result<Part> {
     words.next();
     let from = number_or(words.next(), 1);
     let to = number_or(words.next(), usize::MAX);
-    Ok(Part { from, to })
+    Ok(Part {
+        from,
+        to,
+        choice: Choice::all(),
+    })
 }
 
 // The number that a word is, or this one.

@@ -3,13 +3,13 @@
 ghost use Rattle.std.specs.Prelude.{◌≡◌, ◌++◌, [], ℕ, true, false, map, not, IsOk, IsErr, IfOk, IfErr};
 ghost use Rattle.std.specs.Io.KnownBytes.{Appends};
 ghost use Rattle.nob_demo_spaces.specs.Words.{subcommand_in, word_faults, takes_words};
-ghost use Rattle.nob_demo.specs.Program.{Ended, Does, Goes, IsInput, IsReadingFault, reads_input, status_of, world_status_of, check_status_of, draw_status_of, scene_status_of};
+ghost use Rattle.nob_demo.specs.Program.{Ended, Does, Goes, IsInput, IsReadingFault, part_of, reads_input, status_of, world_status_of, check_status_of, draw_status_of, scene_status_of};
 
 use crate::reading::read_all;
 use crate::streams::{CountedReader, Sink};
 use nob_demo_scripts::pair_script::Outcome;
-use nob_demo_spaces::{Fault, Subcommand, judge};
-use nob_demo_traces::drawing::Part;
+use nob_demo_spaces::{Fault, Rows, Subcommand, judge};
+use nob_demo_traces::drawing::{Choice, Part};
 use nob_model_journal::Verdict;
 use nob_script_text::Ending;
 use std::alloc::Global;
@@ -20,9 +20,9 @@ use std::thread::Threads;
 
 /// Runs the program on the words of its command line, the first of which is its name: the exit
 /// status. All is written to `out` but clap's text and the line `read fault`, which go to `err`.
-/// Status 0: the last line says yes, or a scene's traces are printed or it kept none, or traces that
-/// `check` accepts are drawn; 1: none of these, or a read, a write or memory failed; 2: the words are
-/// refused. A scene reads nothing, and its spaces run in threads.
+/// Status 0: the last line says yes, or a scene's traces are printed or it kept none, or traces
+/// that `check` accepts are drawn; 1: none of these, or a read, a write or memory failed; 2: the
+/// words are refused. A scene reads nothing, and its spaces run in threads.
 pub fn run<H: Threads + Wait + Sync, S: AsStr, R: Read, W: Write, E: Write>(
     rt: &H,
     alloc: Global,
@@ -136,7 +136,7 @@ fn input_of<R: Read>(
         Subcommand::Pair => read_all(alloc, source),
         Subcommand::Script => read_all(alloc, source),
         Subcommand::Check => read_all(alloc, source),
-        Subcommand::Draw { .. } => read_all(alloc, source),
+        Subcommand::Draw(_) => read_all(alloc, source),
         Subcommand::Spaces(_) => Ok(Vec::new(alloc)),
     }
 }
@@ -166,14 +166,30 @@ fn play<H: Threads + Wait + Sync>(
             let ending = nob_demo_traces::checking::play(alloc, input, text);
             (ending.last_line(), check_status_of(ending))
         }
-        Subcommand::Draw { from, to } => {
-            let ending = nob_demo_traces::drawing::play(alloc, input, Part { from, to }, text);
+        Subcommand::Draw(rows) => {
+            let ending = nob_demo_traces::drawing::play(alloc, input, part_of(rows), text);
             (ending.last_line(), draw_status_of(ending))
         }
         Subcommand::Spaces(scene) => {
             let ending = nob_demo_spaces::play(rt, alloc, scene, text);
             (ending.last_line(), scene_status_of(ending))
         }
+    }
+}
+
+// What is drawn, as the words say it.
+fn part_of(rows: Rows) -> Part
+    ensures { result ≡ part_of rows }
+{
+    Part {
+        from: rows.from,
+        to: rows.to,
+        choice: Choice {
+            owner: rows.owner,
+            index: rows.index,
+            space: rows.space,
+            brief: rows.brief,
+        },
     }
 }
 

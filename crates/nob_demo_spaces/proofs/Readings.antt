@@ -1,5 +1,5 @@
 -- What the typed getters make of an option's text.
-use Rattle.std.proofs.Common.{◌≡◌, ◌∙◌, ◌<◌, ◌^◌, ℕ, Bool, true, false, Option, Some, None, Result, codes, refl, sym, subst, arith}
+use Rattle.std.proofs.Common.{◌≡◌, ◌∙◌, ◌<◌, ◌^◌, ℕ, Bool, true, false, Option, Some, None, Result, codes, refl, sym, ap, subst, arith}
 use Rattle.std.specs.Prelude.{unwrap_or}
 use Rattle.std.specs.Str.{bytes_eq}
 use Rattle.std.specs.Str.Parse.{ParsesUnsigned, ExplainsUnsignedError, HasUnsignedDigitsIfOk, ParsesBool, digits_value, without_leading_plus}
@@ -9,7 +9,7 @@ use Rattle.std.proofs.lemmas.Slice.Eq.{bytes_eq-Decides}
 use Rattle.clap.specs.Words.{ReadsOne, Text, one_of, one_text, rows_of}
 use Rattle.clap.specs.declared.parser.matches.Found.{Found}
 use Rattle.clap.proofs.WalkLemmas.{one_text-rows}
-use Rattle.nob_demo_spaces.specs.Options.{number_said, is_said, IsWithin}
+use Rattle.nob_demo_spaces.specs.Options.{number_said, number_if, is_said, IsWithin}
 use Rattle.nob_demo_spaces.specs.Scenes.{IsBetween}
 
 -- what std's parse of a number of k bits gives
@@ -42,6 +42,20 @@ module _ (k lowest highest default : ℕ) (wide : highest < 2 ^ k) where
   number_got f name r n is within here none value =
       let said : n ≡ number_said default (one_of name (rows_of f)) = is ∙ number_read f name r within none value in
       (said, subst (IsBetween lowest highest) (sym said) (between _ within here))
+
+  -- it is there where its text is
+  pub number_there : (f : Found) (name : Text) (r : Option ℕ) → IsWithin lowest highest (one_of name (rows_of f)) → (one_text f name ≡ None → r ≡ None)
+      → ((t : Text) → one_text f name ≡ Some t → ReadsOne (Gives k) t r)
+      → r ≡ number_if (one_of name (rows_of f))
+  number_there f name r within none value = by (one_of name (rows_of f)) r within (λ e. none (one_text-rows f name ∙ e)) (λ t e. value t (one_text-rows f name ∙ e))
+    where
+      by : (text : Option Text) (r : Option ℕ) → IsWithin lowest highest text → (text ≡ None → r ≡ None) → ((t : Text) → text ≡ Some t → ReadsOne (Gives k) t r) → r ≡ number_if text
+      by None r within none value = none refl
+      by (Some t) r within none value = go r (value t refl)
+        where
+          go : (r : Option ℕ) → ReadsOne (Gives k) t r → r ≡ Some (digits_value 10 (without_leading_plus t))
+          go (Some v) h = ap Some h.0.1
+          go None h = absurd (h.1.0 (within.0, omega (arith, within.3)))
 
 told : (text : Option Text) (r : Option Bool) → (text ≡ None → r ≡ None) → ((t : Text) → text ≡ Some t → ReadsOne {T = Bool} {E = ParseBoolError} ParsesBool t r)
     → unwrap_or r false ≡ is_said text

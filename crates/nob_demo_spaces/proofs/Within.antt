@@ -75,6 +75,9 @@ record HasNumbers (keep : Keep) (c : List Rule) : Type 0 where
 record HasRows (c : List Rule) : Type 0 where
   from : HasNumber 1 greatest (codes "from") c
   to : HasNumber 1 greatest (codes "to") c
+  owner : HasNumber 1 32 (codes "owner") c
+  index : HasNumber 0 greatest (codes "index") c
+  space : HasNumber 1 32 (codes "space") c
 
 -- the rules of a subcommand are found by their names, and the subcommands `spaces` and `draw` have the numbers
 record IsRight (keep : Keep) (s : Shape) : Type 0 where
@@ -108,9 +111,9 @@ check_right keep = record {
 
 draw_right : (keep : Keep) → IsRight keep (leaf keep 3)
 draw_right keep = record {
-  own = All-from_recursion (IsOwn (leaf keep 3).rules) (leaf keep 3).rules ((refl, refl), ((refl, refl), ((refl, refl), tt)));
+  own = All-from_recursion (IsOwn (leaf keep 3).rules) (leaf keep 3).rules ((refl, refl), ((refl, refl), ((refl, refl), ((refl, refl), ((refl, refl), ((refl, refl), ((refl, refl), tt)))))));
   scene = λ e. absurd (true≢false (sym e));
-  draw = λ e. record { from = (_, refl, refl); to = (_, refl, refl) };
+  draw = λ e. record { from = (_, refl, refl); to = (_, refl, refl); owner = (_, refl, refl); index = (_, refl, refl); space = (_, refl, refl) };
 }
 
 spaces_right : (keep : Keep) → IsRight keep (leaf keep 4)
@@ -167,6 +170,9 @@ draw_within : (s : Shape) (rows : List Row) → All (Good s.rules) rows → HasR
 draw_within s rows all has = record {
   from = within s.rules rows all 1 greatest (codes "from") has.from;
   to = within s.rules rows all 1 greatest (codes "to") has.to;
+  owner = within s.rules rows all 1 32 (codes "owner") has.owner;
+  index = within s.rules rows all 0 greatest (codes "index") has.index;
+  space = within s.rules rows all 1 32 (codes "space") has.space;
 }
 
 are_within : (keep : Keep) (s : Shape) → IsRight keep s → (name : Text) (rows : List Row) → All (Good s.rules) rows → s.name ≡ name → AreWithin keep name rows

@@ -11,8 +11,7 @@ use Rattle.clap.specs.declared.builder.value_parser.ValueParser.TheVariants.{Uns
 use Rattle.nob_kept.specs.declared.keep.Keep.{Keep}
 use Rattle.nob_kept.specs.declared.keep.Keep.TheVariants.{All, Nothing}
 use Rattle.nob_demo_spaces.specs.Scenes.{Setting, most_spaces, most_calls}
-use Rattle.nob_demo_spaces.specs.declared.command_line.Subcommand.{Subcommand}
-use Rattle.nob_demo_spaces.specs.declared.command_line.Subcommand.TheVariants.{Draw}
+use Rattle.nob_demo_spaces.specs.declared.rows.Rows.{Rows}
 
 -- the option `--NAME N`, where N is a number from the lowest to the highest, as clap sees it
 abbrev pub number_rule : (name : Text) (lowest highest : ℕ) → Rule
@@ -43,9 +42,9 @@ spaces_rules keep = number_rule (codes "spaces") 2 (most_spaces keep) ∷ number
 abbrev pub spaces_shape : Keep → Shape
 spaces_shape keep = record (new_shape (codes "spaces")) { rules = spaces_rules keep }
 
--- the options of `draw`: the numbers of two rows, which count from 1
+-- the options of `draw`: the numbers of two rows, which count from 1; the owner and the index of the object whose life is drawn; the space whose part is; and the flag `brief`
 abbrev pub draw_rules : List Rule
-draw_rules = number_rule (codes "from") 1 greatest ∷ number_rule (codes "to") 1 greatest ∷ []
+draw_rules = number_rule (codes "from") 1 greatest ∷ number_rule (codes "to") 1 greatest ∷ number_rule (codes "owner") 1 32 ∷ number_rule (codes "index") 0 greatest ∷ number_rule (codes "space") 1 32 ∷ flag_rule (codes "brief") ∷ []
 
 -- the subcommand `draw` as clap sees it
 abbrev pub draw_shape : Shape
@@ -55,6 +54,11 @@ draw_shape = record (new_shape (codes "draw")) { rules = draw_rules }
 abbrev pub number_said : (default : ℕ) → Option Text → ℕ
 number_said default None = default
 number_said default (Some text) = digits_value 10 (without_leading_plus text)
+
+-- the number that the text of an option says, where it is there
+abbrev pub number_if : Option Text → Option ℕ
+number_if None = None
+number_if (Some text) = Some (digits_value 10 (without_leading_plus text))
 
 -- whether the text of a flag says that it is set: `true`
 abbrev pub is_said : Option Text → Bool
@@ -72,9 +76,16 @@ setting_in keep rows = record {
   keep = keep;
 }
 
--- the drawing that the options say of which clap found these rows: from the first row, and to the last that there may be, where an option isn't there
-abbrev pub draw_in : List Row → Subcommand
-draw_in rows = Draw (number_said 1 (one_of (codes "from") rows)) (number_said greatest (one_of (codes "to") rows))
+-- the rows that the options say of which clap found these rows: from the first, to the last that there may be, of any object and space, and small ones too, where an option isn't there
+abbrev pub rows_in : List Row → Rows
+rows_in rows = record {
+  from = number_said 1 (one_of (codes "from") rows);
+  to = number_said greatest (one_of (codes "to") rows);
+  owner = number_if (one_of (codes "owner") rows);
+  index = number_if (one_of (codes "index") rows);
+  space = number_if (one_of (codes "space") rows);
+  brief = is_said (one_of (codes "brief") rows);
+}
 
 -- where the option has a text, it is a number from the lowest to the highest
 abbrev pub IsWithin : (lowest highest : ℕ) → Option Text → Type 0
@@ -92,6 +103,9 @@ pub record SceneIsWithin (keep : Keep) (rows : List Row) : Type 0 where
 pub record DrawIsWithin (rows : List Row) : Type 0 where
   pub from : IsWithin 1 greatest (one_of (codes "from") rows)
   pub to : IsWithin 1 greatest (one_of (codes "to") rows)
+  pub owner : IsWithin 1 32 (one_of (codes "owner") rows)
+  pub index : IsWithin 0 greatest (one_of (codes "index") rows)
+  pub space : IsWithin 1 32 (one_of (codes "space") rows)
 
 -- the options of the subcommand of this name, of which clap found these rows, say numbers in range, by what the nodes of a scene keep
 pub record AreWithin (keep : Keep) (name : Text) (rows : List Row) : Type 0 where

@@ -7,7 +7,8 @@ ghost use Rattle.nob_demo_spaces.specs.Words.{nobj, nobj_with_check, nobj_with_d
 
 use crate::fault::Fault;
 use crate::keeping::keep_in;
-use crate::options::{draw_in, scene_in, with_rows, with_scene};
+use crate::options::{rows_in, scene_in, with_rows, with_scene};
+use crate::rows::Rows;
 use crate::scene::Scene;
 use clap::error::ErrorKind;
 use clap::{ArgMatches, Command, Error};
@@ -138,8 +139,11 @@ frame that arrives, and a cross where one is lost; and bars where an object is
 live (green), a client is listed (blue) and a reference is pinned (orange).
 
 Rows count from 1. With --from and --to only those from K to L are drawn, as far
-as there are any: none where K is greater than L. It is for pages: what it costs
-grows faster than the cube of how many entries are read.
+as there are any: none where K is greater than L. With --owner and --index, of them
+the life of that object alone: where it is named, and where a bar of it begins or
+ends. With --space, that space's entries, and those by which a frame goes to it or
+comes from it. With --brief, none that is refused, and no Acks that go alone. They
+go together, and the picture says how many rows it leaves out.
 
 An entry that `nobj check` finds wrong is red, of a wrong seal the last entry
 before it, and the status is 1. Where the input isn't traces and chains, or they
@@ -190,12 +194,7 @@ pub enum Subcommand {
     /// Traces and chains of spaces are checked.
     Check,
     /// Traces and chains of spaces are drawn.
-    Draw {
-        /// The first row of the drawing, counted from 1.
-        from: usize,
-        /// The last row, where there are so many.
-        to: usize,
-    },
+    Draw(Rows),
     /// A scene of spaces is played.
     Spaces(Scene),
 }
@@ -255,7 +254,7 @@ fn named<'a>(keep: Keep, name: &str, options: &ArgMatches<'a>) -> Subcommand
     } else if name == "check" {
         Subcommand::Check
     } else if name == "draw" {
-        draw_in(options)
+        Subcommand::Draw(rows_in(options))
     } else if name == "spaces" {
         Subcommand::Spaces(scene_in(keep, options))
     } else {

@@ -3,10 +3,10 @@
 ghost use Rattle.std.specs.Prelude.{◌≡◌, ◌≤◌, codes, false, IfOk};
 ghost use Rattle.clap.specs.Words.{app_of, found_of, new_app, one_of, rows_of, rule_of, shape_of};
 ghost use Rattle.clap.specs.declared.builder.command.Command.TheViews.{out-Command as fields_of};
-ghost use Rattle.nob_demo_spaces.specs.Options.{draw_in, draw_shape, flag_rule, is_said, last_rule, number_rule, setting_in, spaces_shape, text_rule, DrawIsWithin, SceneIsWithin};
+ghost use Rattle.nob_demo_spaces.specs.Options.{draw_shape, flag_rule, is_said, last_rule, number_rule, rows_in, setting_in, spaces_shape, text_rule, DrawIsWithin, SceneIsWithin};
 ghost use Rattle.nob_demo_spaces.specs.Scenes.{most_calls, most_spaces};
 
-use crate::command_line::Subcommand;
+use crate::rows::Rows;
 use crate::scene::Scene;
 use clap::builder::ValueParser;
 use clap::{Arg, ArgAction, ArgMatches, Command};
@@ -84,7 +84,11 @@ pub fn with_rows<'a>(alloc: Global, draw: Command<'a>) -> Result<Command<'a>, Al
     ensures local { IfOk result (λ command. (fields_of command).has_globals ≡ false) }
 {
     draw.arg(number(alloc, "from", "K", 1, u64::MAX).help("The first row: 1 or more, else 1"))?
-        .arg(number(alloc, "to", "L", 1, u64::MAX).help("The last row: 1 or more, else the last"))
+        .arg(number(alloc, "to", "L", 1, u64::MAX).help("The last row: 1 or more, else the last"))?
+        .arg(number(alloc, "owner", "O", 1, 32).help("The owner of an object whose life is drawn"))?
+        .arg(number(alloc, "index", "X", 0, u64::MAX).help("The index of that object"))?
+        .arg(number(alloc, "space", "S", 1, 32).help("The space whose part is drawn"))?
+        .arg(flag(alloc, "brief").help("Leaves out what is refused, and Acks alone"))
 }
 
 // The option `--NAME N`, where N is a number from the lowest to the highest.
@@ -134,14 +138,25 @@ pub fn scene_in<'a>(keep: Keep, options: &ArgMatches<'a>) -> Scene
     Scene::new(spaces, workers, calls, loss, seed, traces, keep)
 }
 
-/// The drawing that the options say.
-pub fn draw_in<'a>(options: &ArgMatches<'a>) -> Subcommand
+/// The rows that the options say.
+pub fn rows_in<'a>(options: &ArgMatches<'a>) -> Rows
     requires { DrawIsWithin (rows_of (found_of options.now)) }
-    ensures { result ≡ draw_in (rows_of (found_of options.now)) }
+    ensures { result ≡ rows_in (rows_of (found_of options.now)) }
 {
     let from = options.get_one::<usize>("from").unwrap_or(1);
     let to = options.get_one::<usize>("to").unwrap_or(usize::MAX);
-    Subcommand::Draw { from, to }
+    let owner = options.get_one::<u16>("owner");
+    let index = options.get_one::<u64>("index");
+    let space = options.get_one::<u16>("space");
+    let brief = is_set(options, "brief");
+    Rows {
+        from,
+        to,
+        owner,
+        index,
+        space,
+        brief,
+    }
 }
 
 // Whether a flag is set.

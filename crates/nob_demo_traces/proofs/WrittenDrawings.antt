@@ -1,5 +1,5 @@
 -- What is written is one of what may be.
-use Rattle.std.proofs.Common.{◌≡◌, ℕ, List, [], ◌++◌, reverse, map, Option, Some, None, false, refl, ap, sym, subst, ◌∙◌}
+use Rattle.std.proofs.Common.{◌≡◌, ℕ, List, [], ◌++◌, reverse, map, Option, Some, None, Bool, true, false, refl, ap, sym, subst, ◌∙◌}
 use Rattle.std.proofs.lemmas.List.{append-nil}
 use Rattle.std.specs.Prelude.{codes}
 use Rattle.nob_model_types.specs.declared.entry.Entry.{Entry}
@@ -15,6 +15,11 @@ use Rattle.nob_model_traces.specs.Traces.{are_one_each}
 use Rattle.nob_model_traces.specs.declared.fault.WrongEntry.{WrongEntry}
 use Rattle.nob_model_chains.specs.Faults.{AreAccepted}
 use Rattle.nob_drawing_plan.proofs.Arriving.{have_arrows}
+use Rattle.nob_drawing_plan.specs.declared.bar.Bar.{Bar}
+use Rattle.nob_drawing_plan.specs.declared.flight.Arrow.{Arrow}
+use Rattle.nob_drawing_plan.specs.declared.flight.Departure.{Departure}
+use Rattle.nob_drawing_plan.specs.declared.flight.Stray.{Stray}
+use Rattle.nob_drawing_choice.specs.Plans.{places_in, bars_in, arrows_in, lost_in, strays_in}
 use Rattle.nob_drawing.specs.declared.page.Page.{Page}
 use Rattle.nob_drawing.specs.Layout.{drawing, width_of, height_of}
 use Rattle.nob_drawing.specs.declared.shape.Shape.{Shape}
@@ -27,21 +32,19 @@ use Rattle.nob_demo_traces.specs.declared.drawing.Part.{Part}
 
 -- ---- texts
 
--- the text of the shapes of a page is the drawing
-pub svg_is : (n : ℕ) (part : Part) (fault : Option ℕ) (J : List Entry) (page : Page) (width height : ℕ) (shapes : List Shape) → page ≡ page_of n part fault J → width ≡ width_of page → height ≡ height_of page → shapes ≡ drawing page J → svg_text width height shapes ≡ svg_of n part fault J
+-- the text of the shapes of what is drawn is the drawing
+pub svg_is : (n : ℕ) (part : Part) (accepted : Bool) (fault : Option ℕ) (J : List Entry) (page : Page) (places : List (Option ℕ)) (bars : List Bar) (arrows : List Arrow) (lost : List Departure) (strays : List Stray) (width height : ℕ) (shapes : List Shape)
+    → places ≡ places_in n part.choice fault J → bars ≡ bars_in n part.choice fault J → arrows ≡ arrows_in n part.choice fault J → lost ≡ lost_in n part.choice fault J → strays ≡ strays_in n part.choice fault J
+    → page ≡ page_of n part accepted fault places J → width ≡ width_of page → height ≡ height_of page → shapes ≡ drawing page places bars arrows lost strays J → svg_text width height shapes ≡ svg_of n part accepted fault J
 unfolding svg_of
-svg_is n part fault J page width height shapes page_is width_is height_is shapes_are =
-    ap (λ (w : ℕ). svg_text w height shapes) width_is
-    ∙ ap (λ (h : ℕ). svg_text (width_of page) h shapes) height_is
-    ∙ ap (λ (all : List Shape). svg_text (width_of page) (height_of page) all) shapes_are
-    ∙ ap (λ (p : Page). svg_text (width_of p) (height_of p) (drawing p J)) page_is
+svg_is n part accepted fault J page places bars arrows lost strays width height shapes places_are bars_are arrows_are lost_are strays_are page_is width_is height_is shapes_are = rw (width_is, height_is, shapes_are, page_is, places_are, bars_are, arrows_are, lost_are, strays_are) refl
 
 -- the drawing of accepted chains
-pub drawn_written : (input : List ℕ) (part : Part) (chains : List ChainParts) (merged : List Entry) (text : List ℕ) → AreSpelt input chains → IsJudged chains merged None → text ≡ svg_of (spaces_of chains) part None (reverse merged) → Draws input part (text ++ last_line Drawn) Drawn
+pub drawn_written : (input : List ℕ) (part : Part) (chains : List ChainParts) (merged : List Entry) (text : List ℕ) → AreSpelt input chains → IsJudged chains merged None → text ≡ svg_of (spaces_of chains) part true None (reverse merged) → Draws input part (text ++ last_line Drawn) Drawn
 drawn_written input part chains merged text spelt right is = Draws.drawn chains merged spelt right (have_arrows (reverse merged) right.traces.origins) (append-nil text ∙ is) refl
 
 -- the drawing of chains of which one entry is wrong
-pub wrong_written : (input : List ℕ) (part : Part) (chains : List ChainParts) (entry : WrongEntry) (merged : List Entry) (text : List ℕ) → AreSpelt input chains → IsJudged chains merged (Some entry) → text ≡ svg_of (spaces_of chains) part (row_of entry.space entry.place (reverse merged)) (reverse merged) → Draws input part (text ++ last_line Refused) Refused
+pub wrong_written : (input : List ℕ) (part : Part) (chains : List ChainParts) (entry : WrongEntry) (merged : List Entry) (text : List ℕ) → AreSpelt input chains → IsJudged chains merged (Some entry) → text ≡ svg_of (spaces_of chains) part false (row_of entry.space entry.place (reverse merged)) (reverse merged) → Draws input part (text ++ last_line Refused) Refused
 wrong_written input part chains entry merged text spelt wrong is = Draws.wrong chains entry merged spelt wrong.1 wrong.0 (append-nil text ∙ is) refl
 
 -- the line of chains that don't belong together

@@ -1,5 +1,5 @@
 -- What `nobj draw` writes for an input, and how it ends.
-use Rattle.std.specs.Prelude.{◌≡◌, ℕ, ◌+◌, Bool, ◌&&◌, ◌==◌, List, [], ◌∷◌, length, reverse, map, min, max, codes, Option, Some, None, if◌then◌else◌}
+use Rattle.std.specs.Prelude.{◌≡◌, ℕ, ◌+◌, ◌-◌, Bool, true, false, ◌&&◌, ◌==◌, List, [], ◌∷◌, length, reverse, map, min, max, codes, Option, Some, None, if◌then◌else◌}
 use Rattle.nob_model_types.specs.declared.entry.Entry.{Entry}
 use Rattle.nob_model_journal.specs.Journals.{at}
 use Rattle.nob_chain.specs.declared.chain.ChainParts.{ChainParts}
@@ -14,6 +14,7 @@ use Rattle.nob_model_traces.specs.declared.fault.WrongEntry.{WrongEntry}
 use Rattle.nob_model_chains.specs.declared.fault.SetFault.TheVariants.{Traces}
 use Rattle.nob_model_chains.specs.Faults.{IsFault, AreAccepted}
 use Rattle.nob_drawing_plan.specs.Laws.{HaveArrows}
+use Rattle.nob_drawing_choice.specs.Plans.{places_in, bars_in, arrows_in, lost_in, strays_in, count_drawn}
 use Rattle.nob_drawing.specs.declared.page.Page.{Page}
 use Rattle.nob_drawing.specs.Layout.{drawing, width_of, height_of}
 use Rattle.nob_drawing.specs.Writing.{svg_text}
@@ -42,20 +43,35 @@ abbrev pub spaces_of : List ChainParts → ℕ
 spaces_of [] = 0
 spaces_of (chain ∷ chains) = chain.n
 
--- what is shown of a journal of n spaces: the rows of a part, as far as there are any
-abbrev pub page_of : ℕ → Part → Option ℕ → List Entry → Page
-page_of n part fault J = record { n = n; from = max part.from 1; to = min part.to (length J); fault = fault }
+-- what is shown of a journal of n spaces, the places of whose rows are these: those of a part that are asked for, as far as there are any
+abbrev pub page_of : ℕ → Part → (accepted : Bool) → Option ℕ → List (Option ℕ) → List Entry → Page
+page_of n part accepted fault places J = record {
+  n = n;
+  entries = length J;
+  accepted = accepted;
+  fault = fault;
+  choice = part.choice;
+  first = max part.from 1;
+  last = min part.to (length J);
+  from = count_drawn (max part.from 1 - 1) places + 1;
+  to = count_drawn (min part.to (length J)) places;
+}
+
+-- the drawing of a journal, where this page of it is shown
+abbrev pub svg_on : Page → ℕ → Part → Option ℕ → List Entry → List ℕ
+svg_on page n part fault J =
+    svg_text (width_of page) (height_of page) (drawing page (places_in n part.choice fault J) (bars_in n part.choice fault J) (arrows_in n part.choice fault J) (lost_in n part.choice fault J) (strays_in n part.choice fault J) J)
 
 -- the drawing of a journal
-unfoldable pub svg_of : ℕ → Part → Option ℕ → List Entry → List ℕ
-svg_of n part fault J = svg_text (width_of (page_of n part fault J)) (height_of (page_of n part fault J)) (drawing (page_of n part fault J) J)
+unfoldable pub svg_of : ℕ → Part → (accepted : Bool) → Option ℕ → List Entry → List ℕ
+svg_of n part accepted fault J = svg_on (page_of n part accepted fault (places_in n part.choice fault J) J) n part fault J
 
 -- what is written for an input, and how it ends
 pub data Draws (input : List ℕ) (part : Part) (text : List ℕ) (ending : Ending) : Type 0 where
   -- the chains that the input is are a run of a world, and their entries are drawn: each arrival has its arrow
-  drawn : (chains : List ChainParts) (merged : List Entry) → AreSpelt input chains → AreAccepted chains merged → HaveArrows (reverse merged) → text ≡ svg_of (spaces_of chains) part None (reverse merged) → ending ≡ Drawn → Draws input part text ending
+  drawn : (chains : List ChainParts) (merged : List Entry) → AreSpelt input chains → AreAccepted chains merged → HaveArrows (reverse merged) → text ≡ svg_of (spaces_of chains) part true None (reverse merged) → ending ≡ Drawn → Draws input part text ending
   -- an entry of the chains that the input is is wrong, or the seal behind it: all are drawn, and that one in red
-  wrong : (chains : List ChainParts) (entry : WrongEntry) (merged : List Entry) → AreSpelt input chains → IsWrongEntry chains entry → IsMerged (map joined chains) merged → text ≡ svg_of (spaces_of chains) part (row_of entry.space entry.place (reverse merged)) (reverse merged) → ending ≡ Refused → Draws input part text ending
+  wrong : (chains : List ChainParts) (entry : WrongEntry) (merged : List Entry) → AreSpelt input chains → IsWrongEntry chains entry → IsMerged (map joined chains) merged → text ≡ svg_of (spaces_of chains) part false (row_of entry.space entry.place (reverse merged)) (reverse merged) → ending ≡ Refused → Draws input part text ending
   -- the chains that the input is don't belong together
   apart : (chains : List ChainParts) → AreSpelt input chains → IsFault chains (Traces Set) → text ≡ codes "C4\n" → ending ≡ Refused → Draws input part text ending
   -- the input isn't chains

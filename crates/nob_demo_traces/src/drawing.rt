@@ -10,6 +10,7 @@ use crate::drawn::{drawn, drawn_wrong};
 use crate::judging::judged;
 use crate::set::spaces_of;
 use nob_chain::{Chain, ChainError, decode_all, refusal_line};
+pub use nob_drawing_choice::Choice;
 use nob_model_chains::are_one_each;
 use nob_model_traces::WrongEntry;
 use nob_model_types::Entry;
@@ -47,12 +48,14 @@ pub struct Part {
     pub from: usize,
     /// The last of them.
     pub to: usize,
+    /// Which of these are asked for.
+    pub choice: Choice,
 }
 
 /// Writes the drawing of an input, which should be chains and traces one after the other, onto an
 /// empty text; or, where it is neither or they don't belong together, the line that `nobj check`
-/// writes. The ending's last line is still to follow. What is held is read anew after each entry,
-/// so it costs the cube of how many entries there are.
+/// writes. The ending's last line is still to follow. It costs what a pass over the entries does,
+/// and a comparison of each frame that arrives with those that were given.
 pub fn play(alloc: Global, input: &[u8], part: Part, text: &mut Vec<u8>) -> Ending
     requires { text.old.items ≡ [] }
     ensures { spec.Draws input.now part (text.new.items ++ spec.last_line result) result }

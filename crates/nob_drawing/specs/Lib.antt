@@ -1,3 +1,5 @@
+pub mod Glosses
+pub mod Titles
 pub mod Words
 pub mod Layout
 pub mod Writing

@@ -1,5 +1,5 @@
 -- The words that stand in a drawing: of frames, entries and bars.
-use Rattle.std.specs.Prelude.{ℕ, List, [], ◌∷◌, ◌++◌, length, take, nat_le, codes, Option, Some, None, Result, Ok, Err, if◌then◌else◌}
+use Rattle.std.specs.Prelude.{ℕ, ◌==◌, List, [], ◌∷◌, ◌++◌, length, take, nat_le, codes, Option, Some, None, Result, Ok, Err, if◌then◌else◌}
 use Rattle.std.specs.Fmt.{decimal}
 use Rattle.nob_frame.specs.declared.frame.Frame.{Frame}
 use Rattle.nob_frame.specs.declared.frame.FrameKind.{FrameKind}
@@ -16,8 +16,11 @@ use Rattle.nob_model_types.specs.Sessions.{item_spelt}
 use Rattle.nob_model_text.specs.Values.{rep_text, value_text}
 use Rattle.nob_model_text.specs.Events.{event_text}
 use Rattle.nob_model_text.specs.Answers.{answer_text, refusal_text}
+use Rattle.nob_pickle.specs.declared.value.Value.{Value}
+use Rattle.nob_pickle.specs.declared.value.Value.TheVariants as values
 use Rattle.nob_drawing_plan.specs.declared.mark.Mark.{Mark}
 use Rattle.nob_drawing_plan.specs.declared.mark.Mark.TheVariants as marks
+use Rattle.nob_drawing.specs.Glosses.{agent_method, is_printable, quoted}
 
 -- a word and a reference
 abbrev pub about : List ℕ → (owner index : ℕ) → List ℕ
@@ -53,6 +56,47 @@ words_of kinds.Close frame = close_words frame.payload
 abbrev pub frame_words : Frame → List ℕ
 frame_words frame = words_of frame.kind frame
 
+-- a value at an arrow: bytes as text, if they are one
+abbrev pub value_label : Value → List ℕ
+value_label values.Unit = value_text values.Unit
+value_label (values.Int n) = value_text (values.Int n)
+value_label (values.Bytes bytes) = if is_printable bytes then quoted bytes else value_text (values.Bytes bytes)
+value_label (values.List elements) = value_text (values.List elements)
+value_label (values.Ref rep) = value_text (values.Ref rep)
+
+-- which object of space b is called at an arrow, and which method of it: the object of index 0 is the agent
+abbrev pub called : (b target method : ℕ) → List ℕ
+called b target method = if target == 0 then codes "Call agent " ++ (agent_method method ++ codes " ") else about (codes "Call ") b target ++ 32 ∷ (decimal method ++ codes " ")
+
+-- what a Reply is of
+abbrev pub replied : (call status : ℕ) → List ℕ
+replied call status = codes "Reply " ++ (decimal call ++ 32 ∷ (decimal status ++ codes " "))
+
+-- an item at an arrow from a to b
+abbrev pub item_label : (a b : ℕ) → Item → List ℕ
+item_label a b (items.Call call target method value) = called b target method ++ value_label value
+item_label a b (items.Reply call status value) = replied call status ++ value_label value
+item_label a b (items.Settle item) = item_words a b (items.Settle item)
+item_label a b (items.Dirty index) = item_words a b (items.Dirty index)
+item_label a b (items.DirtyOk index) = item_words a b (items.DirtyOk index)
+item_label a b (items.DirtyNo index) = item_words a b (items.DirtyNo index)
+item_label a b (items.Clean index) = item_words a b (items.Clean index)
+
+-- the item that a Data frame carries, if it carries one
+abbrev pub data_label : (a b : ℕ) → Option Item → List ℕ
+data_label a b None = codes "no item"
+data_label a b (Some item) = item_label a b item
+
+-- a frame of this kind at an arrow
+abbrev pub label_of : FrameKind → Frame → List ℕ
+label_of kinds.Data frame = data_label frame.from frame.to (item_spelt frame.payload)
+label_of kinds.Ack frame = words_of kinds.Ack frame
+label_of kinds.Close frame = words_of kinds.Close frame
+
+-- a frame at an arrow
+abbrev pub frame_label : Frame → List ℕ
+frame_label frame = label_of frame.kind frame
+
 -- frames behind others
 abbrev pub behind_words : List Frame → List ℕ
 behind_words [] = []
@@ -87,6 +131,12 @@ abbrev pub mark_words : Mark → List ℕ
 mark_words (marks.Live rep) = rep_text rep ++ codes " live"
 mark_words (marks.Listed rep client) = rep_text rep ++ (codes " listed " ++ decimal client)
 mark_words (marks.Pinned rep peer session item) = rep_text rep ++ (codes " pinned for " ++ decimal peer)
+
+-- the reference that a bar is of
+abbrev pub mark_rep : Mark → List ℕ
+mark_rep (marks.Live rep) = rep_text rep
+mark_rep (marks.Listed rep client) = rep_text rep
+mark_rep (marks.Pinned rep peer session item) = rep_text rep
 
 -- words that are too long are cut
 abbrev pub cut : (most : ℕ) → List ℕ → List ℕ

@@ -14,6 +14,9 @@ class_name styles.Life = codes "life"
 class_name styles.Guide = codes "guide"
 class_name styles.Name = codes "name"
 class_name styles.Number = codes "number"
+class_name styles.Title = codes "title"
+class_name styles.Shown = codes "shown"
+class_name styles.Gloss = codes "gloss"
 class_name styles.Answered = codes "answered"
 class_name styles.Refused = codes "refused"
 class_name styles.Closing = codes "closing"
@@ -29,6 +32,8 @@ class_name styles.OpenTookNothing = codes "sent took-nothing open"
 class_name styles.Lost = codes "lost"
 class_name styles.LostAgain = codes "lost again"
 class_name styles.Cross = codes "cross"
+class_name styles.Stray = codes "sent stray"
+class_name styles.Void = codes "void"
 class_name styles.Live = codes "live"
 class_name styles.Listed = codes "listed"
 class_name styles.Pinned = codes "pinned"
@@ -52,6 +57,10 @@ line_text style from to = codes "<line class='" ++ (class_name style ++ (codes "
 abbrev pub rectangle_text : Style → Point → (width height : ℕ) → List ℕ
 rectangle_text style corner width height = codes "<rect class='" ++ (class_name style ++ (codes "' x='" ++ (decimal corner.x ++ (codes "' y='" ++ (decimal corner.y ++ (codes "' width='" ++ (decimal width ++ (codes "' height='" ++ (decimal height ++ codes "'/>\n")))))))))
 
+-- what stands before the words of a box that has some
+abbrev pub titled_start : Style → Point → (width height : ℕ) → List ℕ
+titled_start style corner width height = codes "<rect class='" ++ (class_name style ++ (codes "' x='" ++ (decimal corner.x ++ (codes "' y='" ++ (decimal corner.y ++ (codes "' width='" ++ (decimal width ++ (codes "' height='" ++ (decimal height ++ codes "'><title>")))))))))
+
 -- what stands before a text
 abbrev pub text_start : Style → Point → List ℕ
 text_start style at = codes "<text class='" ++ (class_name style ++ (codes "' x='" ++ (decimal at.x ++ (codes "' y='" ++ (decimal at.y ++ codes "'>")))))
@@ -64,6 +73,7 @@ turned_start style at = codes "<text class='" ++ (class_name style ++ (codes "' 
 abbrev pub shape_text : Shape → List ℕ
 shape_text (shapes.Line style from to) = line_text style from to
 shape_text (shapes.Rectangle style corner width height) = rectangle_text style corner width height
+shape_text (shapes.Titled style corner width height words) = titled_start style corner width height ++ (escaped words ++ codes "</title></rect>\n")
 shape_text (shapes.Text style at words) = text_start style at ++ (escaped words ++ codes "</text>\n")
 shape_text (shapes.Turned style at words) = turned_start style at ++ (escaped words ++ codes "</text>\n")
 

@@ -1,14 +1,16 @@
-//! Arrows, and frames that are lost.
+//! Arrows.
 
-ghost use Rattle.std.specs.Prelude.{◌≡◌, ◌+◌, ◌-◌, ◌*◌, ◌^◌, ◌<◌, ◌≤◌, min, IfOk, flat_map};
+ghost use Rattle.std.specs.Prelude.{◌≡◌, ◌^◌, ◌<◌, ◌≤◌, IfOk};
 ghost use Rattle.nob_drawing.specs.Layout as spec;
 
-use crate::captions::frame_words;
-use crate::labels::cut_label;
+use crate::frame_labels::frame_label;
+use crate::labels::cut_bytes;
 use crate::page::Page;
-use crate::places::{is_seen, is_shown, point_at, x_of, y_of};
+use crate::places::{is_seen, is_shown, x_of, y_of};
 use crate::{Point, Shape, Style};
-use nob_drawing_plan::{Arrow, Departure};
+use nob_bytes::Bytes;
+use nob_drawing_plan::Arrow;
+use nob_ids::SpaceId;
 use std::alloc::{AllocError, Global};
 
 // How an arrow is drawn.
@@ -21,19 +23,6 @@ fn arrow_style(again: bool, took_nothing: bool) -> Style
         (false, true) => Style::TookNothing,
         (true, true) => Style::TookNothingAgain,
     }
-}
-
-// The words at the head of an arrow.
-fn head_words(alloc: Global, page: &Page, arrow: &Arrow) -> Result<Shape, AllocError>
-    ensures { IfOk result (λ shape. shape ≡ spec.head_words page.now arrow.now) }
-{
-    let words = cut_label(alloc, 32, frame_words(alloc, &arrow.departure.frame)?)?;
-    let x = x_of(arrow.to);
-    let y = y_of(page, arrow.row as u128) + 9;
-    if arrow.departure.space.get() < arrow.to.get() {
-        return Ok(Shape::Text(Style::Before, Point { x: x - 10, y }, words));
-    }
-    Ok(Shape::Text(Style::Behind, Point { x: x + 50, y }, words))
 }
 
 // How an arrow is drawn of which a part is shown.
@@ -133,6 +122,27 @@ pub(crate) fn arrows_lines(
     Ok(shapes)
 }
 
+// The words at the head of what arrives on a side.
+fn side_words(page: &Page, is_left: bool, to: SpaceId, row: usize, words: Bytes) -> Shape
+    ensures { result ≡ spec.side_words page.now is_left to row words }
+{
+    let x = x_of(to);
+    let y = y_of(page, row as u128) + 11;
+    if is_left {
+        return Shape::Text(Style::Before, Point { x: x - 10, y }, words);
+    }
+    Shape::Text(Style::Behind, Point { x: x + 50, y }, words)
+}
+
+// The words of an arrow.
+fn head_words(alloc: Global, page: &Page, arrow: &Arrow) -> Result<Shape, AllocError>
+    ensures { IfOk result (λ shape. shape ≡ spec.head_words page.now arrow.now) }
+{
+    let words = cut_bytes(alloc, 32, frame_label(alloc, &arrow.departure.frame)?)?;
+    let is_left = arrow.departure.space.get() < arrow.to.get();
+    Ok(side_words(page, is_left, arrow.to, arrow.row, words))
+}
+
 // The words of the arrows whose heads are shown.
 pub(crate) fn arrows_words(
     alloc: Global,
@@ -146,150 +156,6 @@ pub(crate) fn arrows_words(
         if is_shown(page, arrow.row) {
             shapes.push(head_words(alloc, page, arrow)?)?;
         }
-    }
-    Ok(shapes)
-}
-
-// How a lost frame is drawn.
-fn lost_style(again: bool) -> Style
-    ensures { result ≡ spec.lost_style again }
-{
-    if again {
-        return Style::LostAgain;
-    }
-    Style::Lost
-}
-
-// Whether a lost frame goes to the right.
-fn goes_right(departure: &Departure) -> bool
-    ensures { result ≡ spec.goes_right departure.now }
-{
-    departure.space.get() < departure.frame.to.get()
-}
-
-// How far to the right a lost frame ends.
-fn lost_x(right: bool, x: u128) -> u128
-    requires { (500 ≤ x) × (x < 2 ^ 14) }
-    ensures place { result ≡ spec.lost_x right x }
-    ensures bound { (4 ≤ result) × (result < 2 ^ 15) }
-{
-    if right {
-        return x + 80;
-    }
-    x - 40
-}
-
-// How far down a lost frame ends.
-fn lost_y(page: &Page, departure: &Departure) -> u128
-    ensures place { result ≡ spec.lost_y page.now departure.now }
-    ensures bound { (4 ≤ result) × (result < 2 ^ 71) }
-{
-    y_of(page, departure.row as u128) + 12 + 12 * (departure.place as u128).min(6)
-}
-
-// Where a lost frame ends.
-fn lost_end(page: &Page, departure: &Departure) -> Point
-    ensures place { result ≡ spec.lost_end page.now departure.now }
-    ensures across { (4 ≤ result.x) × (result.x < 2 ^ 15) }
-    ensures down { (4 ≤ result.y) × (result.y < 2 ^ 71) }
-{
-    let x = lost_x(goes_right(departure), x_of(departure.space));
-    let y = lost_y(page, departure);
-    Point { x, y }
-}
-
-// The words at it.
-fn lost_words(alloc: Global, page: &Page, departure: &Departure) -> Result<Shape, AllocError>
-    ensures { IfOk result (λ shape. shape ≡ spec.lost_words page.now departure.now) }
-{
-    let words = cut_label(alloc, 32, frame_words(alloc, &departure.frame)?)?;
-    let x = x_of(departure.space);
-    let y = lost_y(page, departure) + 4;
-    if goes_right(departure) {
-        return Ok(Shape::Text(Style::Behind, Point { x: x + 90, y }, words));
-    }
-    Ok(Shape::Text(Style::Before, Point { x: x - 48, y }, words))
-}
-
-// One line of a cross: from above.
-fn falling(at: Point) -> Shape
-    requires across { (4 ≤ at.x) × (at.x < 2 ^ 15) }
-    requires down { (4 ≤ at.y) × (at.y < 2 ^ 71) }
-    ensures { result ≡ spec.falling at }
-{
-    Shape::Line(
-        Style::Cross,
-        Point {
-            x: at.x - 4,
-            y: at.y - 4,
-        },
-        Point {
-            x: at.x + 4,
-            y: at.y + 4,
-        },
-    )
-}
-
-// The other one: from below.
-fn rising(at: Point) -> Shape
-    requires across { (4 ≤ at.x) × (at.x < 2 ^ 15) }
-    requires down { (4 ≤ at.y) × (at.y < 2 ^ 71) }
-    ensures { result ≡ spec.rising at }
-{
-    Shape::Line(
-        Style::Cross,
-        Point {
-            x: at.x - 4,
-            y: at.y + 4,
-        },
-        Point {
-            x: at.x + 4,
-            y: at.y - 4,
-        },
-    )
-}
-
-// The line of a lost frame.
-fn lost_line(page: &Page, departure: &Departure) -> Shape
-    ensures { result ≡ spec.lost_line page.now departure.now }
-{
-    let start = point_at(page, departure.space, departure.row as u128);
-    Shape::Line(
-        lost_style(departure.again),
-        start,
-        lost_end(page, departure),
-    )
-}
-
-// A lost frame, where it is shown.
-fn lost_shapes(alloc: Global, page: &Page, departure: &Departure) -> Result<Vec<Shape>, AllocError>
-    ensures { IfOk result (λ shapes. shapes.items ≡ spec.lost_shapes page.now departure.now) }
-{
-    let mut shapes = Vec::new(alloc);
-    if !is_shown(page, departure.row) {
-        return Ok(shapes);
-    }
-    let end = lost_end(page, departure);
-    shapes.push(lost_line(page, departure))?;
-    shapes.push(falling(end))?;
-    shapes.push(rising(end))?;
-    shapes.push(lost_words(alloc, page, departure)?)?;
-    Ok(shapes)
-}
-
-// Lost frames, where they are shown.
-pub(crate) fn losses_shapes(
-    alloc: Global,
-    page: &Page,
-    departures: &[Departure],
-) -> Result<Vec<Shape>, AllocError>
-    ensures { IfOk result (λ shapes. shapes.items
-        ≡ flat_map (spec.lost_shapes page.now) departures.now) }
-{
-    let mut shapes = Vec::new(alloc);
-    for departure in departures {
-        let mut more = lost_shapes(alloc, page, departure)?;
-        shapes.append(&mut more)?;
     }
     Ok(shapes)
 }

@@ -19,7 +19,12 @@ use nob_pickle::Value;
 use std::alloc::{AllocError, Global};
 
 // A word and a reference.
-fn about(alloc: Global, word: &str, owner: SpaceId, index: u64) -> Result<String, AllocError>
+pub(crate) fn about(
+    alloc: Global,
+    word: &str,
+    owner: SpaceId,
+    index: u64,
+) -> Result<String, AllocError>
     ensures { IfOk result (λ text. string_bytes text ≡ spec.about word.now owner index) }
 {
     let rep = rep_text(alloc, WireRep { owner, index })?;
@@ -58,7 +63,12 @@ fn settle_words(alloc: Global, item: u64) -> Result<String, AllocError>
 }
 
 // An item from one space to another.
-fn item_words(alloc: Global, from: SpaceId, to: SpaceId, item: &Item) -> Result<String, AllocError>
+pub(crate) fn item_words(
+    alloc: Global,
+    from: SpaceId,
+    to: SpaceId,
+    item: &Item,
+) -> Result<String, AllocError>
     ensures { IfOk result (λ text. string_bytes text ≡ spec.item_words from to item.now) }
 {
     match item {
@@ -225,6 +235,17 @@ fn pinned_words(alloc: Global, rep: WireRep, peer: SpaceId) -> Result<String, Al
 {
     let object = rep_text(alloc, rep)?;
     format!(in alloc; "{object} pinned for {peer}")
+}
+
+// The reference that a bar is of.
+pub(crate) fn mark_rep(alloc: Global, mark: Mark) -> Result<String, AllocError>
+    ensures { IfOk result (λ text. string_bytes text ≡ spec.mark_rep mark) }
+{
+    match mark {
+        Mark::Live(rep) => rep_text(alloc, rep),
+        Mark::Listed(rep, _) => rep_text(alloc, rep),
+        Mark::Pinned(rep, _, _, _) => rep_text(alloc, rep),
+    }
 }
 
 // What a bar shows.

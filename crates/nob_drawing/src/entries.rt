@@ -1,13 +1,16 @@
 //! Lifelines, and the entries on them.
 
-ghost use Rattle.std.specs.Prelude.{◌≡◌, ◌<◌, ◌+◌, ◌^◌, IfOk, ◌++◌, [], if◌then◌else◌};
+ghost use Rattle.std.specs.Prelude.{◌≡◌, ◌<◌, ◌+◌, ◌^◌, ◌++◌, IfOk};
+ghost use Rattle.std.specs.String.{string_bytes};
 ghost use Rattle.nob_drawing.specs.Layout as spec;
 
 use crate::captions::entry_words;
-use crate::labels::{cut_label, label, number_label};
+use crate::glosses::entry_gloss;
+use crate::labels::{cut_bytes, cut_label, label, number_label};
 use crate::page::Page;
 use crate::places::{bottom_of, column, is_shown, point_at, x_of, y_of};
 use crate::{Point, Shape, Style};
+use nob_drawing_choice::place_of;
 use nob_model_types::{Answer, Entry, Refusal};
 use std::alloc::{AllocError, Global};
 
@@ -18,7 +21,7 @@ fn life_name(alloc: Global, space: u32) -> Result<Shape, AllocError>
     let text = format!(in alloc; "space {space}")?;
     let at = Point {
         x: column(space),
-        y: 62,
+        y: 102,
     };
     Ok(Shape::Text(Style::Name, at, label(text)))
 }
@@ -28,7 +31,7 @@ fn life_line(page: &Page, space: u32) -> Shape
     ensures { result ≡ spec.life_line page.now space }
 {
     let x = column(space);
-    let top = Point { x, y: 72 };
+    let top = Point { x, y: 112 };
     let bottom = Point {
         x,
         y: bottom_of(page),
@@ -69,54 +72,85 @@ fn result_style(answer: &Result<Answer, Refusal>) -> Style
     }
 }
 
-// Whether the entry at a row is the one that is wrong.
-fn is_fault_at(fault: Option<usize>, row: usize) -> bool
-    ensures { result ≡ spec.is_fault_at fault row }
+// Whether the entry of a number is the one that is wrong.
+fn is_fault_at(fault: Option<usize>, number: usize) -> bool
+    ensures { result ≡ spec.is_fault_at fault number }
 {
     match fault {
-        Some(place) => place == row,
+        Some(place) => place == number,
         None => false,
     }
 }
 
-// How the entry at a row is shown.
-fn entry_style(page: &Page, row: usize, entry: &Entry) -> Style
-    ensures { result ≡ spec.entry_style page.now row entry.now }
+// How the entry of a number is shown.
+fn entry_style(page: &Page, number: usize, entry: &Entry) -> Style
+    ensures { result ≡ spec.entry_style page.now number entry.now }
 {
-    if is_fault_at(page.fault, row) {
+    if is_fault_at(page.fault, number) {
         return Style::Fault;
     }
     result_style(&entry.result)
 }
 
-// The text of the entry at a row.
-fn entry_text(alloc: Global, page: &Page, row: usize, entry: &Entry) -> Result<Shape, AllocError>
-    ensures { IfOk result (λ shape. shape ≡ spec.entry_text page.now row entry.now) }
+// The text of the entry of a number, which is this one.
+fn entry_text(
+    alloc: Global,
+    page: &Page,
+    row: usize,
+    style: Style,
+    words: String,
+) -> Result<Shape, AllocError>
+    ensures { IfOk result (λ shape. shape
+        ≡ spec.text_at page.now row style (string_bytes words)) }
 {
-    let words = cut_label(alloc, 62, entry_words(alloc, entry)?)?;
+    let words = cut_label(alloc, 62, words)?;
     let at = Point {
         x: 44,
         y: y_of(page, row as u128) + 4,
     };
-    Ok(Shape::Text(entry_style(page, row, entry), at, words))
+    Ok(Shape::Text(style, at, words))
+}
+
+// Words beside a text of so many signs at a row, where there is room for some of them.
+fn gloss_shapes(
+    alloc: Global,
+    page: &Page,
+    row: usize,
+    signs: usize,
+    words: Vec<u8>,
+) -> Result<Vec<Shape>, AllocError>
+    ensures { IfOk result (λ shapes. shapes.items
+        ≡ spec.gloss_shapes page.now row signs words.items) }
+{
+    let mut shapes = Vec::new(alloc);
+    if words.is_empty() || signs > 52 {
+        return Ok(shapes);
+    }
+    let at = Point {
+        x: 44 + 7 * signs as u128,
+        y: y_of(page, row as u128) + 4,
+    };
+    let words = cut_bytes(alloc, 60 - signs, words)?;
+    shapes.push(Shape::Text(Style::Gloss, at, words))?;
+    Ok(shapes)
 }
 
 // The point on its lifeline.
-fn entry_dot(page: &Page, row: usize, entry: &Entry) -> Shape
-    ensures { result ≡ spec.entry_dot page.now row entry.now }
+fn entry_dot(page: &Page, row: usize, number: usize, entry: &Entry) -> Shape
+    ensures { result ≡ spec.entry_dot page.now row number entry.now }
 {
     let corner = Point {
         x: x_of(entry.space) - 3,
         y: y_of(page, row as u128) - 3,
     };
-    Shape::Rectangle(entry_style(page, row, entry), corner, 6, 6)
+    Shape::Rectangle(entry_style(page, number, entry), corner, 6, 6)
 }
 
-// The number of a row.
-fn row_number(alloc: Global, page: &Page, row: usize) -> Result<Shape, AllocError>
-    ensures { IfOk result (λ shape. shape ≡ spec.row_number page.now row) }
+// The number of an entry.
+fn row_number(alloc: Global, page: &Page, row: usize, number: usize) -> Result<Shape, AllocError>
+    ensures { IfOk result (λ shape. shape ≡ spec.row_number page.now row number) }
 {
-    let number = number_label(alloc, row)?;
+    let number = number_label(alloc, number)?;
     let at = Point {
         x: 36,
         y: y_of(page, row as u128) + 4,
@@ -139,54 +173,83 @@ fn guide(page: &Page, row: usize, entry: &Entry) -> Shape
     )
 }
 
-// The entry at a row.
+// The entry of a number at a row.
 fn entry_shapes(
     alloc: Global,
     page: &Page,
     row: usize,
+    number: usize,
     entry: &Entry,
 ) -> Result<Vec<Shape>, AllocError>
-    ensures { IfOk result (λ shapes. shapes.items ≡ spec.entry_shapes page.now row entry.now) }
+    ensures { IfOk result (λ shapes. shapes.items
+        ≡ spec.entry_shapes page.now row number entry.now) }
 {
+    let words = entry_words(alloc, entry)?;
+    let signs = words.len();
+    let style = entry_style(page, number, entry);
+    let mut gloss = gloss_shapes(alloc, page, row, signs, entry_gloss(alloc, entry)?)?;
     let mut shapes = Vec::new(alloc);
-    shapes.push(row_number(alloc, page, row)?)?;
-    shapes.push(entry_text(alloc, page, row, entry)?)?;
+    shapes.push(row_number(alloc, page, row, number)?)?;
+    shapes.push(entry_text(alloc, page, row, style, words)?)?;
     shapes.push(guide(page, row, entry))?;
-    shapes.push(entry_dot(page, row, entry))?;
+    shapes.push(entry_dot(page, row, number, entry))?;
+    shapes.append(&mut gloss)?;
     Ok(shapes)
 }
 
-// Shapes with those of an entry of a row, if it is shown.
+// The entry of a number, where it has a row that is shown.
+fn entry_at(
+    alloc: Global,
+    page: &Page,
+    row: Option<usize>,
+    number: usize,
+    entry: &Entry,
+) -> Result<Vec<Shape>, AllocError>
+    ensures { IfOk result (λ shapes. shapes.items
+        ≡ spec.entry_at page.now row number entry.now) }
+{
+    let Some(row) = row else {
+        return Ok(Vec::new(alloc));
+    };
+    if !is_shown(page, row) {
+        return Ok(Vec::new(alloc));
+    }
+    entry_shapes(alloc, page, row, number, entry)
+}
+
+// Shapes with those of the entry of a number, where it has a row that is shown.
 fn with_entry(
     alloc: Global,
     page: &Page,
-    row: usize,
+    row: Option<usize>,
+    number: usize,
     entry: &Entry,
     mut shapes: Vec<Shape>,
 ) -> Result<Vec<Shape>, AllocError>
-    ensures { IfOk result (λ all. all.items ≡ shapes.items
-        ++ (if spec.is_shown page.now row then spec.entry_shapes page.now row entry.now else [])) }
+    ensures { IfOk result (λ all. all.items
+        ≡ shapes.items ++ spec.entry_at page.now row number entry.now) }
 {
-    if !is_shown(page, row) {
-        return Ok(shapes);
-    }
-    let mut more = entry_shapes(alloc, page, row, entry)?;
+    let mut more = entry_at(alloc, page, row, number, entry)?;
     shapes.append(&mut more)?;
     Ok(shapes)
 }
 
-// The entries of a journal that are shown.
+// The entries of a journal that are shown, the rows of which are these.
 pub(crate) fn entries_shapes(
     alloc: Global,
     page: &Page,
+    places: &[Option<usize>],
     journal: &[Entry],
 ) -> Result<Vec<Shape>, AllocError>
-    ensures { IfOk result (λ shapes. shapes.items ≡ spec.entries_shapes page.now journal.now) }
+    ensures { IfOk result (λ shapes. shapes.items
+        ≡ spec.entries_shapes page.now places.now journal.now) }
 {
     let mut shapes = Vec::new(alloc);
     for passed in 0..journal.len() {
         let entry = &journal[journal.len() - 1 - passed];
-        shapes = with_entry(alloc, page, passed + 1, entry, shapes)?;
+        let number = passed + 1;
+        let row = place_of(places, number);
+        shapes = with_entry(alloc, page, row, number, entry, shapes)?;
     }
     Ok(shapes)
 }

@@ -15,17 +15,23 @@ pub(crate) fn label(text: String) -> Bytes
     Bytes::from_vec(text.into_bytes())
 }
 
+// Bytes, cut where they are more than this.
+pub(crate) fn cut_bytes(alloc: Global, most: usize, words: Vec<u8>) -> Result<Bytes, AllocError>
+    ensures { IfOk result (λ label. label ≡ spec.cut most words.items) }
+{
+    if words.len() <= most {
+        return Ok(Bytes::from_vec(words));
+    }
+    let mut short = words.as_slice().split_at(most).0.to_vec(alloc)?;
+    short.extend_from_slice(b"..")?;
+    Ok(Bytes::from_vec(short))
+}
+
 // A text, cut where it is longer than this.
 pub(crate) fn cut_label(alloc: Global, most: usize, text: String) -> Result<Bytes, AllocError>
     ensures { IfOk result (λ label. label ≡ spec.cut most (string_bytes text)) }
 {
-    let bytes = text.as_bytes();
-    if bytes.len() <= most {
-        return Ok(label(text));
-    }
-    let mut short = bytes.split_at(most).0.to_vec(alloc)?;
-    short.extend_from_slice(b"..")?;
-    Ok(Bytes::from_vec(short))
+    cut_bytes(alloc, most, text.into_bytes())
 }
 
 // A number.

@@ -1,15 +1,20 @@
-//! A drawing of what spaces did: where everything stands of the arrows and bars of nob_drawing_plan,
-//! and of the entries, as shapes, which are written as SVG.
+//! A drawing of what spaces did: where everything stands of the arrows and bars of
+//! nob_drawing_plan, and of the entries, as shapes, which are written as SVG.
 #![tactic(auto)]
 
 mod arrows;
 mod bars;
 mod captions;
 mod entries;
+mod frame_labels;
+mod glosses;
 mod labels;
+mod losses;
 mod page;
 mod places;
 mod shape;
+mod strays;
+mod titles;
 mod whole;
 mod writing;
 

@@ -21,9 +21,9 @@ fn place_of(page: &Page, row: u128) -> u128
 // How far down a row stands.
 pub(crate) fn y_of(page: &Page, row: u128) -> u128
     ensures place { result ≡ spec.y_of page.now row }
-    ensures bound { (80 ≤ result) × (result < 2 ^ 70) }
+    ensures bound { (120 ≤ result) × (result < 2 ^ 70) }
 {
-    80 + 16 * place_of(page, row)
+    120 + 16 * place_of(page, row)
 }
 
 // How far to the right the lifeline of a space stands.

@@ -22,6 +22,12 @@ pub enum Style {
     Name,
     /// The number of a row.
     Number,
+    /// Of which run a drawing is.
+    Title,
+    /// What of it is shown.
+    Shown,
+    /// What is said beside the text of an entry.
+    Gloss,
     /// An entry that was answered.
     Answered,
     /// An entry that was refused.
@@ -52,6 +58,10 @@ pub enum Style {
     LostAgain,
     /// Where such a frame ends.
     Cross,
+    /// A frame that arrives and was given by nobody.
+    Stray,
+    /// Where such a frame begins.
+    Void,
     /// As long as an object is live.
     Live,
     /// As long as a client is listed.
@@ -73,6 +83,8 @@ pub enum Shape {
     Line(Style, Point, Point),
     /// A box: its upper left corner, how wide and how high it is.
     Rectangle(Style, Point, u128, u128),
+    /// A box with words that are shown where one points at it.
+    Titled(Style, Point, u128, u128, Bytes),
     /// A text at a point.
     Text(Style, Point, Bytes),
     /// A text that goes downwards from a point.

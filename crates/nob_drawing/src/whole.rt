@@ -4,33 +4,54 @@ ghost use Rattle.std.specs.Prelude.{◌≡◌, IfOk};
 ghost use Rattle.nob_drawing.specs.Layout as spec;
 
 use crate::Shape;
-use crate::arrows::{arrows_lines, arrows_words, losses_shapes};
+use crate::arrows::{arrows_lines, arrows_words};
 use crate::bars::bars_shapes;
 use crate::entries::{entries_shapes, lives_from};
+use crate::losses::losses_shapes;
 use crate::page::Page;
-use nob_drawing_plan::{bars, flights, lost};
+use crate::strays::strays_shapes;
+use crate::titles::title_shapes;
+use nob_drawing_choice::Plan;
 use nob_model_types::Entry;
 use std::alloc::{AllocError, Global};
 
-/// All that stands in a drawing of a journal, the newest entry of which stands first: a lifeline for
-/// each space, the bars, the entries that are shown, the arrows and the frames that are lost. It
-/// costs what the plan costs, and then a few shapes for each part of it.
-pub fn drawing(alloc: Global, page: &Page, journal: &[Entry]) -> Result<Vec<Shape>, AllocError>
-    ensures { IfOk result (λ shapes. shapes.items ≡ spec.drawing page.now journal.now) }
+// All that goes from lifeline to lifeline, or should.
+fn flown(alloc: Global, page: &Page, plan: &Plan) -> Result<Vec<Shape>, AllocError>
+    ensures { IfOk result (λ shapes. shapes.items
+        ≡ spec.flown page.now plan.now.arrows.items plan.now.lost.items plan.now.strays.items) }
 {
-    let held = bars(alloc, page.n, journal)?;
-    let (departures, arrows) = flights(alloc, journal)?;
-    let losses = lost(alloc, arrows.as_slice(), departures.as_slice())?;
-    let mut shapes = lives_from(alloc, page, 1, u32::from(page.n))?;
-    let mut entries = entries_shapes(alloc, page, journal)?;
-    let mut held = bars_shapes(alloc, page, held.as_slice())?;
-    let mut lines = arrows_lines(alloc, page, arrows.as_slice())?;
-    let mut losses = losses_shapes(alloc, page, losses.as_slice())?;
-    let mut words = arrows_words(alloc, page, arrows.as_slice())?;
-    losses.append(&mut words)?;
-    lines.append(&mut losses)?;
-    held.append(&mut lines)?;
+    let mut shapes = arrows_lines(alloc, page, plan.arrows.as_slice())?;
+    let mut losses = losses_shapes(alloc, page, plan.lost.as_slice())?;
+    let mut strays = strays_shapes(alloc, page, plan.strays.as_slice())?;
+    let mut words = arrows_words(alloc, page, plan.arrows.as_slice())?;
+    strays.append(&mut words)?;
+    losses.append(&mut strays)?;
+    shapes.append(&mut losses)?;
+    Ok(shapes)
+}
+
+/// All that stands in a drawing of a journal, the newest entry of which stands first, where this is
+/// what is drawn of it: its titles, a lifeline for each space, the bars, the entries that are
+/// shown, the arrows, the frames that are lost, and those that come from nowhere. A few shapes for
+/// each part of the plan.
+pub fn drawing(
+    alloc: Global,
+    page: &Page,
+    plan: &Plan,
+    journal: &[Entry],
+) -> Result<Vec<Shape>, AllocError>
+    ensures { IfOk result (λ shapes. shapes.items ≡ spec.drawing page.now plan.now.places.items
+        plan.now.bars.items plan.now.arrows.items plan.now.lost.items plan.now.strays.items
+        journal.now) }
+{
+    let mut shapes = title_shapes(alloc, page)?;
+    let mut lives = lives_from(alloc, page, 1, u32::from(page.n))?;
+    let mut entries = entries_shapes(alloc, page, plan.places.as_slice(), journal)?;
+    let mut held = bars_shapes(alloc, page, plan.bars.as_slice())?;
+    let mut others = flown(alloc, page, plan)?;
+    held.append(&mut others)?;
     entries.append(&mut held)?;
-    shapes.append(&mut entries)?;
+    lives.append(&mut entries)?;
+    shapes.append(&mut lives)?;
     Ok(shapes)
 }

@@ -13,40 +13,50 @@ pub const LOOKS: &[u8] = b"<style>
 svg { background: #fff; font-family: monospace; font-size: 11px; }
 rect { stroke: none; }
 .page { fill: #fff; }
+.title { font-size: 14px; font-weight: bold; }
 .life { stroke: #555; stroke-width: 1.5; }
 .guide { stroke: #ddd; stroke-width: 0.7; }
 .name { font-size: 14px; font-weight: bold; text-anchor: middle; }
 .number { fill: #999; text-anchor: end; }
+.gloss { fill: #888; }
 .answered { fill: #222; }
 .refused { fill: #b06000; }
+rect.refused { fill: #fff; stroke: #b06000; stroke-width: 1.5; }
 .closing { fill: #8000a0; font-weight: bold; }
+rect.closing { stroke: #8000a0; stroke-width: 5; stroke-dasharray: 3; stroke-dashoffset: -1.5; }
 .fault { fill: #d00000; font-weight: bold; }
+rect.fault { stroke: #d00000; stroke-width: 6; }
 .sent { stroke: #1c4f9c; stroke-width: 1.6; marker-end: url(#head); }
 .took-nothing { stroke: #b4b4b4; marker-end: url(#grey); }
-.again { stroke-width: 0.7; }
 .part { stroke-dasharray: 2 3; }
 .open { stroke-dasharray: 2 3; marker-end: none; }
 .lost { stroke: #1c4f9c; stroke-width: 1.6; }
+.again { stroke-width: 0.7; }
 .cross { stroke: #d00000; stroke-width: 1.6; }
+.stray { stroke: #d00000; marker-end: url(#red); }
+.void { stroke: #d00000; stroke-width: 2.4; }
 .live { fill: #a9d8a0; }
-.listed { fill: #a6cdf0; }
-.pinned { fill: #f4c98a; }
-.held { font-size: 8px; fill: #333; }
-.words { fill: #1c4f9c; paint-order: stroke; stroke: #fff; stroke-width: 3px; }
+.listed { fill: url(#hatched); }
+.pinned { fill: url(#striped); }
+.held { font-size: 8px; fill: #000; paint-order: stroke; stroke: #fff; stroke-width: 3px; stroke-opacity: 0.8; stroke-linejoin: round; }
+.words { fill: #1c4f9c; paint-order: stroke; stroke: #fff; stroke-width: 7px; stroke-linejoin: round; }
 .before { text-anchor: end; }
 </style>
 <defs>
 <marker id='head' markerWidth='8' markerHeight='8' refX='7' refY='3' orient='auto' markerUnits='userSpaceOnUse'><path d='M0,0 L7,3 L0,6 z' fill='#1c4f9c'/></marker>
 <marker id='grey' markerWidth='8' markerHeight='8' refX='7' refY='3' orient='auto' markerUnits='userSpaceOnUse'><path d='M0,0 L7,3 L0,6 z' fill='#b4b4b4'/></marker>
+<marker id='red' markerWidth='8' markerHeight='8' refX='7' refY='3' orient='auto' markerUnits='userSpaceOnUse'><path d='M0,0 L7,3 L0,6 z' fill='#d00000'/></marker>
+<pattern id='hatched' width='6' height='6' patternUnits='userSpaceOnUse' patternTransform='rotate(45)'><rect width='6' height='6' fill='#a6cdf0'/><rect width='1.5' height='6' fill='#5a95cf'/></pattern>
+<pattern id='striped' width='6' height='5' patternUnits='userSpaceOnUse'><rect width='6' height='5' fill='#f4c98a'/><rect width='6' height='1.5' fill='#d99a3d'/></pattern>
 </defs>
 <rect class='page' width='100%' height='100%'/>
-<rect class='live' x='12' y='12' width='9' height='12'/><text x='26' y='22'>an object is live</text>
-<rect class='listed' x='160' y='12' width='9' height='12'/><text x='174' y='22'>a client is listed</text>
-<rect class='pinned' x='314' y='12' width='9' height='12'/><text x='328' y='22'>a reference is pinned</text>
-<text class='refused' x='12' y='42'>refused</text>
-<text class='closing' x='68' y='42'>closes a session</text>
-<text class='fault' x='184' y='42'>wrong</text>
-<text class='words' x='232' y='42'>thin: given before, grey: took nothing, dotted: in part, cross: lost</text>
+<rect class='live' x='12' y='52' width='9' height='12'/><text x='26' y='62'>an object is live</text>
+<rect class='listed' x='160' y='52' width='9' height='12'/><text x='174' y='62'>a client is listed</text>
+<rect class='pinned' x='314' y='52' width='9' height='12'/><text x='328' y='62'>a reference is pinned</text>
+<rect class='refused' x='12' y='76' width='6' height='6'/><text class='refused' x='24' y='82'>refused</text>
+<rect class='closing' x='82' y='76' width='6' height='6'/><text class='closing' x='96' y='82'>closes a session</text>
+<rect class='fault' x='214' y='76' width='6' height='6'/><text class='fault' x='228' y='82'>wrong</text>
+<text class='words' x='274' y='82'>thin: given before, grey: took nothing, dotted: in part, cross: lost, red: from nowhere</text>
 ";
 
 // The name of a style.
@@ -58,6 +68,9 @@ fn class_name(style: Style) -> &'static str
         Style::Guide => "guide",
         Style::Name => "name",
         Style::Number => "number",
+        Style::Title => "title",
+        Style::Shown => "shown",
+        Style::Gloss => "gloss",
         Style::Answered => "answered",
         Style::Refused => "refused",
         Style::Closing => "closing",
@@ -73,6 +86,8 @@ fn class_name(style: Style) -> &'static str
         Style::Lost => "lost",
         Style::LostAgain => "lost again",
         Style::Cross => "cross",
+        Style::Stray => "sent stray",
+        Style::Void => "void",
         Style::Live => "live",
         Style::Listed => "listed",
         Style::Pinned => "pinned",
@@ -134,6 +149,25 @@ fn rectangle_text(
     format!(in alloc; "<rect class='{class}' x='{x}' y='{y}' width='{width}' height='{height}'/>\n")
 }
 
+// What stands before the words of a box that has some.
+fn titled_start(
+    alloc: Global,
+    style: Style,
+    corner: Point,
+    width: u128,
+    height: u128,
+) -> Result<String, AllocError>
+    ensures { IfOk result (λ text. string_bytes text
+        ≡ spec.titled_start style corner width height) }
+{
+    let class = class_name(style);
+    let x = corner.x;
+    let y = corner.y;
+    format!(in alloc;
+        "<rect class='{class}' x='{x}' y='{y}' width='{width}' height='{height}'><title>"
+    )
+}
+
 // What stands before a text.
 fn text_start(alloc: Global, style: Style, at: Point) -> Result<String, AllocError>
     ensures { IfOk result (λ text. string_bytes text ≡ spec.text_start style at) }
@@ -165,6 +199,17 @@ fn put_words(text: &mut Vec<u8>, start: &[u8], words: &[u8]) -> Result<(), Alloc
     Ok(())
 }
 
+// Puts a box with its words behind a text.
+fn put_titled(text: &mut Vec<u8>, start: &[u8], words: &[u8]) -> Result<(), AllocError>
+    ensures { OnOk result (text.new.items
+        ≡ text.old.items ++ (start.now ++ (spec.escaped words.now ++ codes "</title></rect>\n"))) }
+{
+    text.extend_from_slice(start)?;
+    put_escaped(text, words)?;
+    text.extend_from_slice(b"</title></rect>\n")?;
+    Ok(())
+}
+
 // Puts a shape behind a text.
 fn put_shape(alloc: Global, text: &mut Vec<u8>, shape: &Shape) -> Result<(), AllocError>
     ensures { OnOk result (text.new.items ≡ text.old.items ++ spec.shape_text shape.now) }
@@ -179,6 +224,10 @@ fn put_shape(alloc: Global, text: &mut Vec<u8>, shape: &Shape) -> Result<(), All
             let rectangle = rectangle_text(alloc, *style, *corner, *width, *height)?;
             text.extend_from_slice(rectangle.as_bytes())?;
             Ok(())
+        }
+        Shape::Titled(style, corner, width, height, words) => {
+            let start = titled_start(alloc, *style, *corner, *width, *height)?;
+            put_titled(text, start.as_bytes(), words.as_slice())
         }
         Shape::Text(style, at, words) => {
             let start = text_start(alloc, *style, *at)?;

@@ -13,9 +13,10 @@ use Rattle.nob_model_journal.specs.Journals.{frames_of, transmitted_frames}
 use Rattle.nob_model_journal.specs.Runs.{ArrivesGiven}
 use Rattle.nob_drawing_plan.specs.declared.flight.Departure.{Departure}
 use Rattle.nob_drawing_plan.specs.declared.flight.Arrow.{Arrow}
+use Rattle.nob_drawing_plan.specs.declared.flight.Stray.{Stray}
 use Rattle.nob_drawing_plan.specs.Bars.{row_after}
-use Rattle.nob_drawing_plan.specs.Flights.{same_frame, departure_of, with_departures, departures, last_of, takes_nothing, arrow_from, arrow_of, arrows}
-use Rattle.nob_drawing_plan.specs.Laws.{IsArrowOf, AreGiven, HaveArrows}
+use Rattle.nob_drawing_plan.specs.Flights.{same_frame, departure_of, with_departures, departures, last_of, takes_nothing, arrow_from, arrow_of, arrows, stray_from, stray_of, strays}
+use Rattle.nob_drawing_plan.specs.Laws.{IsArrowOf, IsStrayOf, IsDrawn, AreGiven, HaveArrows, EachIsDrawn}
 use Rattle.nob_drawing_plan.proofs.Frames.{frame_is, frame_self}
 
 -- ---- lists
@@ -150,28 +151,23 @@ last_is frame (x ∷ D) d h = by (last_is frame D d) (last_of frame D) refl h
 abbrev HasArrow : List Arrow → Entry → Frame → List Entry → Type 0
 HasArrow all arrival frame before = (arrow : Arrow) × Contains all arrow × IsArrowOf arrival frame before arrow
 
-arrow_here : (before : List Entry) (arrival : Entry) (frame : Frame) → ArrivesGiven arrival.event before → arrival.event ≡ Arrive frame → HasArrow (arrows (arrival ∷ before)) arrival frame before
-arrow_here before arrival frame given is = (arrow, there, right)
+-- the newest departure of its frame gives an arrival its arrow
+arrow_by : (before : List Entry) (arrival : Entry) (frame : Frame) (departure : Departure) → last_of frame (departures before) ≡ Some departure → arrival.event ≡ Arrive frame → HasArrow (arrows (arrival ∷ before)) arrival frame before
+arrow_by before arrival frame departure found is = (arrow, there, right)
   where
-    of : HasOf (departures before) frame
-    of = was_departed before frame (subst (λ (e : Event). ArrivesGiven e before) is given)
+    last : IsLast frame (departures before) departure
+    last = last_is frame (departures before) departure found
 
-    found : (e : Departure) × (last_of frame (departures before) ≡ Some e)
-    found = is_found frame (departures before) of.0 of.1 of.2
-
-    last : IsLast frame (departures before) found.0
-    last = last_is frame (departures before) found.0 found.1
-
-    origin : IsGiven before found.0
-    origin = was_given before found.0 last.0
+    origin : IsGiven before departure
+    origin = was_given before departure last.0
 
     arrow : Arrow
-    arrow = record { departure = found.0; to = arrival.space; row = row_after before; took_nothing = takes_nothing frame arrival.result }
+    arrow = record { departure = departure; to = arrival.space; row = row_after before; took_nothing = takes_nothing frame arrival.result }
 
     is_own : arrow_of arrival.space (row_after before) arrival.event arrival.result (departures before) ≡ arrow ∷ []
     is_own =
         ap (λ (e : Event). arrow_of arrival.space (row_after before) e arrival.result (departures before)) is
-        ∙ ap (λ (o : Option Departure). arrow_from arrival.space (row_after before) (takes_nothing frame arrival.result) o) found.1
+        ∙ ap (λ (o : Option Departure). arrow_from arrival.space (row_after before) (takes_nothing frame arrival.result) o) found
 
     there : Contains (arrows (arrival ∷ before)) arrow
     there = Contains-append_right (arrows before) (arrow_of arrival.space (row_after before) arrival.event arrival.result (departures before)) arrow
@@ -191,6 +187,12 @@ arrow_here before arrival frame given is = (arrow, there, right)
       begins_in = origin.row_is;
     }
 
+arrow_here : (before : List Entry) (arrival : Entry) (frame : Frame) → ArrivesGiven arrival.event before → arrival.event ≡ Arrive frame → HasArrow (arrows (arrival ∷ before)) arrival frame before
+arrow_here before arrival frame given is =
+    let of : HasOf (departures before) frame = was_departed before frame (subst (λ (e : Event). ArrivesGiven e before) is given) in
+    let found = is_found frame (departures before) of.0 of.1 of.2 in
+    arrow_by before arrival frame found.0 found.1 is
+
 arrow_at : (after before : List Entry) (arrival : Entry) (frame : Frame) → AreGiven (after ++ arrival ∷ before) → arrival.event ≡ Arrive frame → HasArrow (arrows (after ++ arrival ∷ before)) arrival frame before
 arrow_at [] before arrival frame given is = arrow_here before arrival frame given.0 is
 arrow_at (entry ∷ after) before arrival frame given is =
@@ -202,3 +204,58 @@ arrow_at (entry ∷ after) before arrival frame given is =
 pub have_arrows : (J : List Entry) → AreGiven J → HaveArrows J
 have_arrows J given after before arrival frame is arrives =
     subst (λ (L : List Entry). HasArrow (arrows L) arrival frame before) (sym is) (arrow_at after before arrival frame (subst AreGiven is given) arrives)
+
+-- ---- arrivals without an origin
+
+-- an arrival is marked as one without an origin among these
+abbrev HasStray : List Stray → Entry → Frame → List Entry → Type 0
+HasStray all arrival frame before = (stray : Stray) × Contains all stray × IsStrayOf arrival frame before stray
+
+stray_by : (before : List Entry) (arrival : Entry) (frame : Frame) → last_of frame (departures before) ≡ None → arrival.event ≡ Arrive frame → HasStray (strays (arrival ∷ before)) arrival frame before
+stray_by before arrival frame none is = (stray, there, right)
+  where
+    stray : Stray
+    stray = record { frame = frame; to = arrival.space; row = row_after before }
+
+    is_own : stray_of arrival.space (row_after before) arrival.event (departures before) ≡ stray ∷ []
+    is_own =
+        ap (λ (e : Event). stray_of arrival.space (row_after before) e (departures before)) is
+        ∙ ap (λ (o : Option Departure). stray_from arrival.space (row_after before) frame o) none
+
+    there : Contains (strays (arrival ∷ before)) stray
+    there = Contains-append_right (strays before) (stray_of arrival.space (row_after before) arrival.event (departures before)) stray
+        (subst (λ (xs : List Stray). Contains xs stray) (sym is_own) (contains_here stray stray [] refl))
+
+    right : IsStrayOf arrival frame before stray
+    right = record {
+      ends_at = refl;
+      ends_in = refl;
+      frame_is = refl;
+      not_given = λ given.
+          let of = was_departed before frame given in
+          let found = is_found frame (departures before) of.0 of.1 of.2 in
+          let both : Some found.0 ≡ None = sym found.1 ∙ none in
+          absurd cc;
+    }
+
+drawn_here : (before : List Entry) (arrival : Entry) (frame : Frame) → arrival.event ≡ Arrive frame → IsDrawn (arrival ∷ before) arrival frame before
+drawn_here before arrival frame is = by (last_of frame (departures before)) refl
+  where
+    by : (o : Option Departure) → last_of frame (departures before) ≡ o → IsDrawn (arrival ∷ before) arrival frame before
+    by (Some departure) found = inl (arrow_by before arrival frame departure found is)
+    by None none = inr (stray_by before arrival frame none is)
+
+drawn_at : (after before : List Entry) (arrival : Entry) (frame : Frame) → arrival.event ≡ Arrive frame → IsDrawn (after ++ arrival ∷ before) arrival frame before
+drawn_at [] before arrival frame is = drawn_here before arrival frame is
+drawn_at (entry ∷ after) before arrival frame is = by (drawn_at after before arrival frame is)
+  where
+    J : List Entry
+    J = after ++ arrival ∷ before
+
+    by : IsDrawn J arrival frame before → IsDrawn (entry ∷ J) arrival frame before
+    by (inl rest) = inl (rest.0, Contains-append_left (arrows J) (arrow_of entry.space (row_after J) entry.event entry.result (departures J)) rest.0 rest.1, rest.2)
+    by (inr rest) = inr (rest.0, Contains-append_left (strays J) (stray_of entry.space (row_after J) entry.event (departures J)) rest.0 rest.1, rest.2)
+
+-- each arrival has its arrow, or is marked as one without an origin
+pub are_drawn : EachIsDrawn
+are_drawn J after before arrival frame is arrives = subst (λ (L : List Entry). IsDrawn L arrival frame before) (sym is) (drawn_at after before arrival frame arrives)

@@ -6,6 +6,7 @@ use Rattle.nob_frame.specs.declared.frame.Frame.{Frame}
 use Rattle.nob_model_types.specs.declared.entry.Entry.{Entry}
 use Rattle.nob_drawing_plan.specs.declared.flight.Departure.{Departure}
 use Rattle.nob_drawing_plan.specs.declared.flight.Arrow.{Arrow}
+use Rattle.nob_drawing_plan.specs.declared.flight.Stray.{Stray}
 use Rattle.nob_model_types.specs.Deeds.{deed_in}
 use Rattle.nob_model_journal.specs.Journals.{frames_of}
 use Rattle.nob_drawing_plan.specs.Bars.{row_after}
@@ -49,16 +50,9 @@ passed_back frame xs back x less is so_far other =
     ∙ ap (spec.last_of frame) (sym (taken_back xs back x less is))
     ∙ so_far
 
--- the departures and the arrows with those of one entry more
-pub flights_next : (entry : Entry) (J more : List Entry) (at : ℕ) (D : List Departure) (A all : List Arrow) (after : List Departure) → more ≡ entry ∷ J → at ≡ row_after J → (D ≡ spec.departures J) × (A ≡ spec.arrows J) → all ≡ A ++ spec.arrow_of entry.space at entry.event entry.result D → after ≡ spec.with_departures entry.space at 0 (frames_of (deed_in entry)) D → (after ≡ spec.departures more) × (all ≡ spec.arrows more)
-flights_next entry J more row D A all after is place so_far with_arrow with_given = (
-  with_given
-      ∙ ap (λ (r : ℕ). spec.with_departures entry.space r 0 (frames_of (deed_in entry)) D) place
-      ∙ ap (spec.with_departures entry.space (row_after J) 0 (frames_of (deed_in entry))) so_far.0
-      ∙ ap spec.departures (sym is),
-  with_arrow
-      ∙ ap (λ (r : ℕ). A ++ spec.arrow_of entry.space r entry.event entry.result D) place
-      ∙ ap (λ (given : List Departure). A ++ spec.arrow_of entry.space (row_after J) entry.event entry.result given) so_far.0
-      ∙ ap (λ (arrows : List Arrow). arrows ++ spec.arrow_of entry.space (row_after J) entry.event entry.result (spec.departures J)) so_far.1
-      ∙ ap spec.arrows (sym is),
-)
+-- the departures, the arrows and the arrivals without an origin with those of one entry more
+pub flights_next : (entry : Entry) (J more : List Entry) (at : ℕ) (D : List Departure) (A all : List Arrow) (S others : List Stray) (after : List Departure) → more ≡ entry ∷ J → at ≡ row_after J
+    → (D ≡ spec.departures J) × (A ≡ spec.arrows J) × (S ≡ spec.strays J)
+    → all ≡ A ++ spec.arrow_of entry.space at entry.event entry.result D → others ≡ S ++ spec.stray_of entry.space at entry.event D
+    → after ≡ spec.with_departures entry.space at 0 (frames_of (deed_in entry)) D → (after ≡ spec.departures more) × (all ≡ spec.arrows more) × (others ≡ spec.strays more)
+flights_next entry J more at D A all S others after is place (given_are, arrows_are, strays_are) with_arrow with_stray with_given = rw (is, with_given, with_arrow, with_stray, place, given_are, arrows_are, strays_are) (refl, refl, refl)

@@ -1,4 +1,5 @@
--- The arrows of a drawing: a frame from the Transmit that gave it to an Arrive of it; and the frames that never arrive.
+-- The arrows of a drawing: a frame from the Transmit that gave it to an Arrive of it; the arrivals of frames that none gave; and
+-- the frames that never arrive.
 -- Rows count from 1 in merged order, and the newest entry of a journal stands FIRST.
 use Rattle.std.specs.Prelude.{ℕ, ◌+◌, Bool, true, false, ◌&&◌, not, ◌==◌, List, [], ◌∷◌, ◌++◌, filter, Option, Some, None, Result, Ok, Err, if◌then◌else◌}
 use Rattle.std.specs.List.{list_any}
@@ -16,6 +17,7 @@ use Rattle.nob_model_types.specs.Deeds.{deed_in}
 use Rattle.nob_model_journal.specs.Journals.{frames_of}
 use Rattle.nob_drawing_plan.specs.declared.flight.Departure.{Departure}
 use Rattle.nob_drawing_plan.specs.declared.flight.Arrow.{Arrow}
+use Rattle.nob_drawing_plan.specs.declared.flight.Stray.{Stray}
 use Rattle.nob_drawing_plan.specs.Bars.{row_after}
 
 -- whether two frames are the same
@@ -73,6 +75,21 @@ arrow_of s row _ result before = []
 abbrev pub arrows : List Entry → List Arrow
 arrows [] = []
 arrows (entry ∷ J) = arrows J ++ arrow_of entry.space (row_after J) entry.event entry.result (departures J)
+
+-- the arrival at a row of a frame that has no departure
+abbrev pub stray_from : (s row : ℕ) → Frame → Option Departure → List Stray
+stray_from s row frame None = record { frame = frame; to = s; row = row } ∷ []
+stray_from s row frame (Some departure) = []
+
+-- what arrives by an event and was given by none before
+abbrev pub stray_of : (s row : ℕ) → Event → List Departure → List Stray
+stray_of s row (Arrive frame) before = stray_from s row frame (last_of frame before)
+stray_of s row _ before = []
+
+-- the arrivals of a journal that have no origin, in their order
+abbrev pub strays : List Entry → List Stray
+strays [] = []
+strays (entry ∷ J) = strays J ++ stray_of entry.space (row_after J) entry.event (departures J)
 
 -- whether an arrow is of a departure
 abbrev pub comes_from : Departure → Arrow → Bool

@@ -62,6 +62,28 @@ pub struct Arrow {
     pub took_nothing: bool,
 }
 
+/// An arrival of a frame that no Transmit before it gave.
+#[derive(Debug, Drop)]
+pub struct Stray {
+    /// The frame.
+    pub frame: Frame,
+    /// The space at which it arrives.
+    pub to: SpaceId,
+    /// The row of the Arrive.
+    pub row: usize,
+}
+
+/// The frames of a journal.
+#[derive(Debug, Drop)]
+pub struct Flown {
+    /// Those that Transmits gave.
+    pub departures: Vec<Departure>,
+    /// An arrow for each that arrives, from the newest Transmit before it that gave it.
+    pub arrows: Vec<Arrow>,
+    /// Those that arrive and were given by none.
+    pub strays: Vec<Stray>,
+}
+
 // Whether two frames are the same.
 fn same_frame(frame: &Frame, other: &Frame) -> bool
     ensures { result ≡ spec.same_frame frame.now other.now }
@@ -153,49 +175,69 @@ fn takes_nothing(frame: &Frame, answer: &Result<Answer, Refusal>) -> bool
     }
 }
 
-// Arrows with that of an entry at a row, if it is an arrival.
+// Arrows, and arrivals without an origin, with that of an entry at a row, if it is an arrival.
 fn with_arrival(
     entry: &Entry,
     row: usize,
     departures: &[Departure],
     mut arrows: Vec<Arrow>,
-) -> Result<Vec<Arrow>, AllocError>
-    ensures { IfOk result (λ all. all.items ≡ arrows.items
+    mut strays: Vec<Stray>,
+) -> Result<(Vec<Arrow>, Vec<Stray>), AllocError>
+    ensures arrows { IfOk result (λ all. all.0.items ≡ arrows.items
         ++ spec.arrow_of entry.now.space row entry.now.event entry.now.result departures.now) }
+    ensures strays { IfOk result (λ all. all.1.items ≡ strays.items
+        ++ spec.stray_of entry.now.space row entry.now.event departures.now) }
 {
-    match &entry.event {
-        Event::Arrive(frame) => {
-            let Some(departure) = last_of(frame, departures) else {
-                return Ok(arrows);
-            };
+    let Event::Arrive(frame) = &entry.event else {
+        return Ok((arrows, strays));
+    };
+    match last_of(frame, departures) {
+        Some(departure) => {
             arrows.push(Arrow {
                 departure: departure.copy()?,
                 to: entry.space,
                 row,
                 took_nothing: takes_nothing(frame, &entry.result),
             })?;
-            Ok(arrows)
+            Ok((arrows, strays))
         }
-        _ => Ok(arrows),
+        None => {
+            strays.push(Stray {
+                frame: frame.copy()?,
+                to: entry.space,
+                row,
+            })?;
+            Ok((arrows, strays))
+        }
     }
 }
 
-/// The frames that the Transmits of a journal gave, and an arrow for each Arrive from the newest
-/// Transmit before it that gave its frame. The newest entry stands first, rows count from the
-/// oldest. At each arrival all frames that were given are looked through.
-pub fn flights(alloc: Global, journal: &[Entry]) -> Result<(Vec<Departure>, Vec<Arrow>), AllocError>
-    ensures departures { IfOk result (λ found. found.0.items ≡ spec.departures journal.now) }
-    ensures arrows { IfOk result (λ found. found.1.items ≡ spec.arrows journal.now) }
+/// The frames of a journal: those that its Transmits gave, an arrow for each Arrive from the newest
+/// Transmit before it that gave its frame, and the Arrives of which none did. The newest entry
+/// stands first, rows count from the oldest. At each arrival all frames that were given are looked
+/// through.
+pub fn flights(alloc: Global, journal: &[Entry]) -> Result<Flown, AllocError>
+    ensures departures { IfOk result (λ found. found.departures.items
+        ≡ spec.departures journal.now) }
+    ensures arrows { IfOk result (λ found. found.arrows.items ≡ spec.arrows journal.now) }
+    ensures strays { IfOk result (λ found. found.strays.items ≡ spec.strays journal.now) }
 {
     let mut departures = Vec::new(alloc);
     let mut arrows = Vec::new(alloc);
+    let mut strays = Vec::new(alloc);
     for passed in 0..journal.len() {
         let entry = &journal[journal.len() - 1 - passed];
         let row = passed + 1;
-        arrows = with_arrival(entry, row, departures.as_slice(), arrows)?;
+        let (more, others) = with_arrival(entry, row, departures.as_slice(), arrows, strays)?;
+        arrows = more;
+        strays = others;
         departures = with_departures(entry.space, row, 0, frames_of(entry), departures)?;
     }
-    Ok((departures, arrows))
+    Ok(Flown {
+        departures,
+        arrows,
+        strays,
+    })
 }
 
 // Whether an arrow is of a departure.

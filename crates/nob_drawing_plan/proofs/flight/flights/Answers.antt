@@ -8,7 +8,7 @@ loop-passed-preserved c =
     let journal = c.args.journal.now in
     let passed = c.loop-passed.passed in
     let entry = c.index-journal-journal.result in
-    flights_next entry (drop (length journal - passed) journal) _ _ _ _ _ _
+    flights_next entry (drop (length journal - passed) journal) _ _ _ _ _ _ _ _
     (next_of journal passed entry c.loop-passed-test.true c.index-journal-journal.is)
     (row_of journal passed c.loop-passed-test.true)
-    c.loop-passed.invariant (rw c.as_slice.ensures.value at c.in_ok-arrows.ensures) (rw c.frames_of.ensures at c.in_ok-departures.ensures)
+    c.loop-passed.invariant (rw c.as_slice.ensures.value at c.in_ok-more.ensures.arrows) (rw c.as_slice.ensures.value at c.in_ok-more.ensures.strays) (rw c.frames_of.ensures at c.in_ok-departures.ensures)

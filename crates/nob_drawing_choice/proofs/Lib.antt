@@ -1,0 +1,2 @@
+mod Placed
+pub mod Both

@@ -1,0 +1,4 @@
+pub mod Naming
+pub mod Choices
+pub mod Plans
+pub mod Laws
