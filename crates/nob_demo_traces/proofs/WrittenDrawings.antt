@@ -1,5 +1,6 @@
 -- What is written is one of what may be.
-use Rattle.std.proofs.Common.{◌≡◌, ℕ, List, [], ◌++◌, reverse, map, Option, Some, None, Bool, true, false, refl, ap, sym, subst, ◌∙◌}
+use Rattle.std.proofs.Common.{◌≡◌, ℕ, List, [], ◌++◌, reverse, map, Option, Some, None, Bool, true, false, ◌≤◌, ◌∷◌, refl, ap, sym, subst, ◌∙◌, arith}
+use Prim.Native.Nat.{zero, suc}
 use Rattle.std.proofs.lemmas.List.{append-nil}
 use Rattle.std.specs.Prelude.{codes}
 use Rattle.nob_model_types.specs.declared.entry.Entry.{Entry}
@@ -19,7 +20,7 @@ use Rattle.nob_drawing_plan.specs.declared.bar.Bar.{Bar}
 use Rattle.nob_drawing_plan.specs.declared.flight.Arrow.{Arrow}
 use Rattle.nob_drawing_plan.specs.declared.flight.Departure.{Departure}
 use Rattle.nob_drawing_plan.specs.declared.flight.Stray.{Stray}
-use Rattle.nob_drawing_choice.specs.Plans.{places_in, bars_in, arrows_in, lost_in, strays_in}
+use Rattle.nob_drawing_choice.specs.Plans.{places_in, bars_in, arrows_in, lost_in, strays_in, count_drawn}
 use Rattle.nob_drawing.specs.declared.page.Page.{Page}
 use Rattle.nob_drawing.specs.Layout.{drawing, width_of, height_of}
 use Rattle.nob_drawing.specs.declared.shape.Shape.{Shape}
@@ -30,6 +31,17 @@ use Rattle.nob_demo_traces.specs.declared.drawing.Ending.{Ending}
 use Rattle.nob_demo_traces.specs.declared.drawing.Ending.TheVariants.{Drawn, Refused}
 use Rattle.nob_demo_traces.specs.declared.drawing.Part.{Part}
 
+-- of the first so many rows no more are drawn
+pub few_drawn : (number : ℕ) (all : List (Option ℕ)) → count_drawn number all ≤ number
+few_drawn zero all = omega (arith)
+few_drawn (suc number) [] = omega (arith)
+few_drawn (suc number) (None ∷ all) =
+    let fewer : count_drawn number all ≤ number = few_drawn number all in
+    omega (arith, fewer)
+few_drawn (suc number) (Some place ∷ all) =
+    let fewer : count_drawn number all ≤ number = few_drawn number all in
+    omega (arith, fewer)
+
 -- ---- texts
 
 -- the text of the shapes of what is drawn is the drawing
@@ -37,7 +49,20 @@ pub svg_is : (n : ℕ) (part : Part) (accepted : Bool) (fault : Option ℕ) (J :
     → places ≡ places_in n part.choice fault J → bars ≡ bars_in n part.choice fault J → arrows ≡ arrows_in n part.choice fault J → lost ≡ lost_in n part.choice fault J → strays ≡ strays_in n part.choice fault J
     → page ≡ page_of n part accepted fault places J → width ≡ width_of page → height ≡ height_of page → shapes ≡ drawing page places bars arrows lost strays J → svg_text width height shapes ≡ svg_of n part accepted fault J
 unfolding svg_of
-svg_is n part accepted fault J page places bars arrows lost strays width height shapes places_are bars_are arrows_are lost_are strays_are page_is width_is height_is shapes_are = rw (width_is, height_is, shapes_are, page_is, places_are, bars_are, arrows_are, lost_are, strays_are) refl
+svg_is n part accepted fault J page places bars arrows lost strays width height shapes places_are bars_are arrows_are lost_are strays_are page_is width_is height_is shapes_are =
+    let B = bars_in n part.choice fault J in
+    let A = arrows_in n part.choice fault J in
+    let L = lost_in n part.choice fault J in
+    let S = strays_in n part.choice fault J in
+    ap (λ (w : ℕ). svg_text w height shapes) width_is
+    ∙ ap (λ (h : ℕ). svg_text (width_of page) h shapes) height_is
+    ∙ ap (λ (all : List Shape). svg_text (width_of page) (height_of page) all) shapes_are
+    ∙ ap (λ (some : List Bar). svg_text (width_of page) (height_of page) (drawing page places some arrows lost strays J)) bars_are
+    ∙ ap (λ (some : List Arrow). svg_text (width_of page) (height_of page) (drawing page places B some lost strays J)) arrows_are
+    ∙ ap (λ (some : List Departure). svg_text (width_of page) (height_of page) (drawing page places B A some strays J)) lost_are
+    ∙ ap (λ (some : List Stray). svg_text (width_of page) (height_of page) (drawing page places B A L some J)) strays_are
+    ∙ ap (λ (p : Page). svg_text (width_of p) (height_of p) (drawing p places B A L S J)) page_is
+    ∙ ap (λ (ps : List (Option ℕ)). svg_text (width_of (page_of n part accepted fault ps J)) (height_of (page_of n part accepted fault ps J)) (drawing (page_of n part accepted fault ps J) ps B A L S J)) places_are
 
 -- the drawing of accepted chains
 pub drawn_written : (input : List ℕ) (part : Part) (chains : List ChainParts) (merged : List Entry) (text : List ℕ) → AreSpelt input chains → IsJudged chains merged None → text ≡ svg_of (spaces_of chains) part true None (reverse merged) → Draws input part (text ++ last_line Drawn) Drawn
