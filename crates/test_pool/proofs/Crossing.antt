@@ -40,4 +40,4 @@ pub site_sync : IsSync Site.the_row
 site_sync =
     let T = Site.the_type in
     recorded_sync (Struct (shape T)) T.D T.to T.to_one (struct_sync (shape T)
-    (keeper_field_sync, (keeper_field_sync, (search (crosses, sendable) depth 60 fits 20000, (search (crosses, sendable) depth 60 fits 20000, (search (crosses, sendable) depth 60 fits 20000, tt))))))
+    (keeper_field_sync, (keeper_field_sync, (search (crosses, sendable) depth 60 fits 20000, (search (crosses, sendable) depth 60 fits 20000, (search (crosses, sendable) depth 60 fits 20000, (search (crosses, sendable) depth 60 fits 20000, (search (crosses, sendable) depth 60 fits 20000, (search (crosses, sendable) depth 60 fits 20000, tt)))))))))

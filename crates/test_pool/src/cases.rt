@@ -3,13 +3,14 @@
 use crate::calls::{Row, Said, ask, is_answered, make, reply, say, told};
 use crate::crew::{CALLER, COUNTERS, HOLDER, ODD, WITHDRAWN};
 use crate::names::{first, name, named, object, second};
-use crate::site::Site;
+use crate::site::{Side, Site};
 use nob_ids::CallNo;
-use nob_keeper::{Keeper, Seat, WorkKind};
+use nob_keeper::{Keeper, Seat};
 use nob_model_types::Event;
 use nob_pickle::Value;
 use std::alloc::Global;
 use std::sync::Wait;
+use std::thread;
 
 /// So often all counters are called before any of them has answered.
 const BATCHES: u64 = 625;
@@ -170,11 +171,10 @@ fn withdrawn_at_last<R: Wait>(
     rows: &mut Vec<Row>,
 ) -> Option<()> {
     for _ in rt.forever() {
-        let look = keeper.look(rt);
         if make(rt, keeper, seat, &Event::Withdraw(2)).is_some() {
             break;
         }
-        let _wake = keeper.wait_past(rt, WorkKind::Care, look.place);
+        thread::yield_now();
     }
     say(rows, "then it is withdrawn", Said::Is(true))
 }
@@ -224,7 +224,7 @@ fn stopped<R: Wait>(rt: &R, site: &Site, seat: &mut Seat, rows: &mut Vec<Row>) -
     site.gate.hold_next();
     let held = ask(rt, keeper, seat, object(second(), 1), 0, Value::Unit)?;
     site.gate.wait_held(rt);
-    site.second.stop(rt, WorkKind::Claim);
+    site.close(Side::Second);
     site.wait_stopped(rt);
     let is_early = is_answered(rt, keeper, seat, held)?;
     say(

@@ -12,7 +12,7 @@ use crate::tally::{say_back, say_ended};
 use crate::threads::{Post, Task, Way};
 use nob_dispatch::Shelf;
 use nob_ids::{Limits, SpaceId};
-use nob_keeper::{Keeper, Seat, WorkKind};
+use nob_keeper::{Keeper, Seat};
 use nob_space::Space;
 use std::alloc::Global;
 use std::sync::Wait;
@@ -113,15 +113,14 @@ fn all_cases<R: Wait>(rt: &R, alloc: Global, site: &Site, is_whole: bool) -> Tol
 // Has the threads end: first nothing more is claimed, and then nothing more carried.
 fn stop_all<R: Wait>(rt: &R, site: &Site, is_whole: bool) {
     site.gate.open();
-    site.first.stop(rt, WorkKind::Claim);
-    site.second.stop(rt, WorkKind::Claim);
+    site.close(Side::First);
+    site.close(Side::Second);
     if is_whole {
         site.wait_rested(rt);
     }
-    for kind in [WorkKind::Send, WorkKind::Care] {
-        site.first.stop(rt, kind);
-        site.second.stop(rt, kind);
-    }
+    site.leave();
+    site.first.stop(rt);
+    site.second.stop(rt);
 }
 
 // Says what is found when all threads have ended.

@@ -30,6 +30,11 @@ pub(crate) struct Site {
     pub(crate) first: Keeper,
     pub(crate) second: Keeper,
     pub(crate) gate: Turnstile,
+    // Whether the desk of each space is to claim no more.
+    first_is_closed: AtomicBool,
+    second_is_closed: AtomicBool,
+    // Whether nothing more is to be settled and cleaned.
+    is_left: AtomicBool,
     // Whether the second space's desk claims no more.
     has_stopped: AtomicBool,
     // How many desks have come to rest.
@@ -42,9 +47,39 @@ impl Site {
             first,
             second,
             gate: Turnstile::new(),
+            first_is_closed: AtomicBool::new(false),
+            second_is_closed: AtomicBool::new(false),
+            is_left: AtomicBool::new(false),
             has_stopped: AtomicBool::new(false),
             rested: AtomicU64::new(0),
         }
+    }
+
+    /// Has the desk of a space claim no more. It looks for that whenever it finds no job.
+    pub(crate) fn close(&self, side: Side) {
+        self.closing(side).store(true, Ordering::SeqCst);
+    }
+
+    /// Whether the desk of a space is to claim no more.
+    pub(crate) fn is_closed(&self, side: Side) -> bool {
+        self.closing(side).load(Ordering::SeqCst)
+    }
+
+    fn closing(&self, side: Side) -> &AtomicBool {
+        match side {
+            Side::First => &self.first_is_closed,
+            Side::Second => &self.second_is_closed,
+        }
+    }
+
+    /// Has nothing more be settled and cleaned. Who does looks for that whenever it finds nothing.
+    pub(crate) fn leave(&self) {
+        self.is_left.store(true, Ordering::SeqCst);
+    }
+
+    /// Whether nothing more is to be settled and cleaned.
+    pub(crate) fn is_left(&self) -> bool {
+        self.is_left.load(Ordering::SeqCst)
     }
 
     /// The keeper of a space.

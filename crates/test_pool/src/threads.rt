@@ -4,7 +4,7 @@ use crate::objects::Thing;
 use crate::site::{Side, Site};
 use nob_dispatch::{Assigned, Desk, Hand, Remaining, Shelf, serve};
 use nob_ids::SpaceId;
-use nob_keeper::{Dues, Keeper, KeeperError, Seat, Wake, WorkKind};
+use nob_keeper::{Dues, Keeper, KeeperError, Seat, Wake};
 use nob_model_types::{Answer, Event};
 use nob_space::{Due, Work};
 use std::sync::Wait;
@@ -61,7 +61,7 @@ fn after<R: Wait>(rt: &R, site: &Site, side: Side, task: Task) -> Task {
             Task::Carry(way)
         }
         Task::Care(mut seat) => {
-            care(rt, keeper, &mut seat);
+            care(rt, site, keeper, &mut seat);
             Task::Care(seat)
         }
         Task::Serve(mut hand) => {
@@ -72,9 +72,9 @@ fn after<R: Wait>(rt: &R, site: &Site, side: Side, task: Task) -> Task {
     }
 }
 
-// Waits for work of a kind behind a place: whether there may be some.
-fn is_woken<R: Wait>(rt: &R, keeper: &Keeper, kind: WorkKind, place: u64) -> bool {
-    match keeper.wait_past(rt, kind, place) {
+// Waits for something to transmit behind a place: whether there may be something.
+fn is_woken<R: Wait>(rt: &R, keeper: &Keeper, place: u64) -> bool {
+    match keeper.wait_past(rt, place) {
         Wake::Work => true,
         Wake::TraceFull => false,
         Wake::Stopped => false,
@@ -84,7 +84,7 @@ fn is_woken<R: Wait>(rt: &R, keeper: &Keeper, kind: WorkKind, place: u64) -> boo
 // Runs a desk, and ends it: so the hands get no more.
 fn left_of<R: Wait>(rt: &R, site: &Site, side: Side, mut desk: Desk<Thing>) -> Task {
     let keeper = site.keeper(side);
-    assign(rt, keeper, &mut desk);
+    assign(rt, site, side, &mut desk);
     desk.stop_claiming();
     site.note_stopped(side);
     come_to_rest(rt, keeper, &mut desk);
@@ -94,18 +94,19 @@ fn left_of<R: Wait>(rt: &R, site: &Site, side: Side, mut desk: Desk<Thing>) -> T
     Task::Left(seat, shelf)
 }
 
-// Claims jobs, until it is told to stop. It sleeps at the keeper where there is none.
-fn assign<R: Wait>(rt: &R, keeper: &Keeper, desk: &mut Desk<Thing>) {
+// Claims jobs, until it is told to stop. Where there is none it looks again.
+fn assign<R: Wait>(rt: &R, site: &Site, side: Side, desk: &mut Desk<Thing>) {
+    let keeper = site.keeper(side);
     for _ in rt.forever() {
-        let look = keeper.look(rt);
         match desk.turn(rt, keeper) {
             Ok(Assigned::Handed) => {}
             Ok(Assigned::Did) => {}
             Ok(Assigned::Later) => thread::yield_now(),
             Ok(Assigned::Idle) => {
-                if !is_woken(rt, keeper, WorkKind::Claim, look.place) {
+                if site.is_closed(side) {
                     return;
                 }
+                thread::yield_now();
             }
             Err(KeeperError::OutOfMemory) => thread::yield_now(),
             Err(_) => return,
@@ -142,7 +143,7 @@ fn carry<R: Wait>(rt: &R, from: &Keeper, to: &Keeper, peer: SpaceId, way: &mut W
             if pass(rt, from, to, peer, way).is_none() {
                 thread::yield_now();
             }
-        } else if !is_woken(rt, from, WorkKind::Send, dues.place) {
+        } else if !is_woken(rt, from, dues.place) {
             return;
         }
     }
@@ -185,21 +186,20 @@ fn act_on_all<R: Wait>(rt: &R, keeper: &Keeper, peer: SpaceId, seat: &mut Seat) 
     Some(())
 }
 
-// Settles and cleans, until it is told to stop. It sleeps at the keeper where there is nothing
-// to do.
-fn care<R: Wait>(rt: &R, keeper: &Keeper, seat: &mut Seat) {
+// Settles and cleans, until it is told to stop. Where there is nothing to do it looks again.
+fn care<R: Wait>(rt: &R, site: &Site, keeper: &Keeper, seat: &mut Seat) {
     for _ in rt.forever() {
-        let look = keeper.look(rt);
-        match care_of(&look.work) {
+        match care_of(&keeper.work(rt)) {
             Some(event) => {
                 if keeper.call(rt, seat, &event, 0).is_err() {
                     thread::yield_now();
                 }
             }
             None => {
-                if !is_woken(rt, keeper, WorkKind::Care, look.place) {
+                if site.is_left() {
                     return;
                 }
+                thread::yield_now();
             }
         }
     }
