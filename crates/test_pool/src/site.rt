@@ -136,6 +136,9 @@ impl Site {
             first,
             second,
             gate: _,
+            first_is_closed: _,
+            second_is_closed: _,
+            is_left: _,
             has_stopped: _,
             rested: _,
         } = self;
