@@ -31,8 +31,16 @@ pub struct Sender<P: PutParcel + Drop> {
     pace: Pace,
     // The peer whose link's other end was found to be gone, and whose session isn't closed yet.
     gone: Option<SpaceId>,
-    // At which peers that was found.
+    // At which peers that was found, and the session closed for it.
     told: [bool; 32],
+}
+
+// Whether an open session would transmit something.
+fn is_of_open(due: Due) -> bool {
+    match due {
+        Due::Ack | Due::Again | Due::New => true,
+        Due::Nothing | Due::Close => false,
+    }
 }
 
 impl<P: PutParcel + Drop> Model for Sender<P> {
@@ -61,8 +69,8 @@ impl<P: PutParcel + Drop> Model for Sender<P> {
 }
 
 impl<P: PutParcel + Drop> Sender<P> {
-    /// The agent for these ways. What is out is transmitted again after `pause` turns, and a tick is
-    /// made after every `tick_every` of these repeats, none where that is 0. The caller's
+    /// The agent for these ways. What is out is transmitted again after `pause` turns, and a tick
+    /// is made after every `tick_every` of these repeats, none where that is 0. The caller's
     /// condition: the seat and the ways are unused, and no two ways lead to one peer.
     pub fn new(seat: Seat, ways: Vec<Way<P>>, pause: u32, tick_every: u32) -> Sender<P>
         requires seat { seat ≡ [] }
@@ -151,6 +159,23 @@ impl<P: PutParcel + Drop> Sender<P> {
         Ok((count, false))
     }
 
+    // The peer of a way whose link's other end is gone, where a session with it was opened anew and
+    // would transmit something.
+    fn lost(&self, all: &Dues) -> Option<SpaceId> {
+        for way in &self.ways {
+            if way.has_gone() && is_of_open(all.due[way.peer().place()]) {
+                return Some(way.peer());
+            }
+        }
+        None
+    }
+
+    // What is to be closed next, since its link's other end is gone, if something is.
+    fn next_close(&mut self, all: &Dues) -> Option<Event> {
+        let peer = self.gone.take().or(self.lost(all))?;
+        Some(Event::Close(peer))
+    }
+
     // What a Transmit would give to each peer whose link's other end is there.
     fn known(&self, all: &Dues) -> [Due; 32] {
         let mut dues = [Due::Nothing; 32];
@@ -165,10 +190,11 @@ impl<P: PutParcel + Drop> Sender<P> {
 
     // What is to be asked next, if something is.
     fn next<R: Wait, C: Calls>(&mut self, rt: &R, keeper: &C) -> Option<Event> {
-        if let Some(peer) = self.gone.take() {
-            return Some(Event::Close(peer));
+        let all = keeper.dues(rt);
+        if let Some(close) = self.next_close(&all) {
+            return Some(close);
         }
-        let dues = self.known(&keeper.dues(rt));
+        let dues = self.known(&all);
         self.pace.next(&dues)
     }
 
@@ -186,11 +212,11 @@ impl<P: PutParcel + Drop> Sender<P> {
     }
 
     /// One turn: what is on its way is put, as far as the links have room; then something is
-    /// transmitted, what is new at once, an Ack alone after a few turns, and what is out again after
-    /// more, and put too. Where
-    /// a link's other end is gone the session with its peer is closed, once, and nothing more is put
-    /// there. It makes no entry that gives nothing. After K2, or another error of the keeper, the
-    /// next turn goes on where this one stood: nothing is lost.
+    /// transmitted, what is new at once, an Ack alone after a few turns, and what is out again
+    /// after more, and put too. Where a link's other end is gone the session with its peer is
+    /// closed, and one that is opened anew with it once it has something to transmit; nothing more
+    /// is put there. It makes no entry that gives nothing. After K2, or another error of the
+    /// keeper, the next turn goes on where this one stood: nothing is lost.
     pub fn turn<R: Wait, C: Calls>(&mut self, rt: &R, keeper: &C) -> Result<Turn, KeeperError> {
         let (count, is_clear) = self.put_all(rt)?;
         if count > 0 {
@@ -208,13 +234,15 @@ impl<P: PutParcel + Drop> Sender<P> {
     }
 
     /// Puts what is on its way and transmits what is new, as far as the links have room: how many
-    /// parcels. What there is to transmit is asked once. What is out isn't transmitted again, and the
-    /// turns until it is aren't counted: so whoever has handed something on may ask for this as
-    /// often as he likes. After K2, or another error of the keeper, the next turn goes on where this
-    /// one stood.
+    /// parcels. What there is to transmit is asked once. What is out isn't transmitted again, and
+    /// the turns until it is aren't counted: so whoever has handed something on may ask for this as
+    /// often as he likes. After K2, or another error of the keeper, the next turn goes on where
+    /// this one stood.
     pub fn flush<R: Wait, C: Calls>(&mut self, rt: &R, keeper: &C) -> Result<u64, KeeperError> {
         let (mut count, mut is_clear) = self.put_all(rt)?;
-        let mut dues = self.known(&keeper.dues(rt));
+        let all = keeper.dues(rt);
+        self.gone = self.gone.take().or(self.lost(&all));
+        let mut dues = self.known(&all);
         for _ in 0..MOST_STEPS {
             if !is_clear {
                 break;
@@ -230,11 +258,12 @@ impl<P: PutParcel + Drop> Sender<P> {
         Ok(count)
     }
 
-    /// Whether nothing is left for it to do, by what the keeper says: all that it transmitted is put,
-    /// and a Transmit would give a frame to no peer whose link's other end is there.
+    /// Whether nothing is left for it to do, by what the keeper says: all that it transmitted is
+    /// put, and a Transmit would give a frame to no peer whose link's other end is there.
     pub fn is_done(&self, dues: &Dues) -> bool {
         self.is_clear()
             && self.gone.is_none()
+            && self.lost(dues).is_none()
             && self.known(dues).iter().all(|due| *due == Due::Nothing)
     }
 

@@ -47,7 +47,10 @@ fn run<R: Threads + Wait + Sync + Print>(rt: &R, alloc: Global) -> io::Result<()
     say(
         rt,
         &alone,
-        &[("a call over a link whose other end is let go", 1)],
+        &[(
+            "a call over a link whose other end is let go, and one in a new session",
+            1,
+        )],
     )?;
     let cut = play_cut(rt, alloc);
     say(

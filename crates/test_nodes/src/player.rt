@@ -158,12 +158,25 @@ impl<'m> Player<'m> {
         self.give_back(rt, node, hold);
     }
 
-    // Calls a space to which nobody carries what is sent.
+    // Calls a space to which nobody carries what is sent, and once that has ended once more in a
+    // session that is opened anew.
     fn call_nobody<R: Wait>(&mut self, rt: &R, node: &mut Node<Thing>) {
         let Some(first) = SpaceId::new(1) else {
             return;
         };
-        match found(rt, node, &mut self.refusals, first, b"one") {
+        self.look_up(rt, node, first);
+        if self.said != Said::Ended {
+            return;
+        }
+        self.said = Said::Other;
+        if self.refusals.answered(node.open(rt, first)).is_some() {
+            self.look_up(rt, node, first);
+        }
+    }
+
+    // Looks a name of a space up: what that came to.
+    fn look_up<R: Wait>(&mut self, rt: &R, node: &mut Node<Thing>, space: SpaceId) {
+        match found(rt, node, &mut self.refusals, space, b"one") {
             Ok(hold) => self.give_back(rt, node, Some(hold)),
             Err(said) => self.said = said,
         }
