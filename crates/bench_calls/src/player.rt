@@ -62,7 +62,7 @@ impl<'c, C: Clock> Player<'c, C> {
         &mut self,
         rt: &R,
         node: &mut Node<Thing>,
-        company: &mut Company,
+        company: &Company,
         thing: Thing,
     ) {
         let hold = offer(rt, node, thing, NAME);
@@ -77,7 +77,7 @@ impl<'c, C: Clock> Player<'c, C> {
     }
 
     // Calls what the others have.
-    fn call<R: Wait>(&mut self, rt: &R, node: &mut Node<Thing>, company: &mut Company) {
+    fn call<R: Wait>(&mut self, rt: &R, node: &mut Node<Thing>, company: &Company) {
         let _ = company.meet(rt);
         let own = name_for(company.space().get());
         let name = if self.task.kind == Kind::Apart {
@@ -98,7 +98,7 @@ impl<'c, C: Clock> Player<'c, C> {
 }
 
 impl<'c, C: Clock> nob_nodes::Player<Thing> for Player<'c, C> {
-    fn run<R: Wait>(&mut self, rt: &R, node: &mut Node<Thing>, company: &mut Company) {
+    fn run<R: Wait>(&mut self, rt: &R, node: &mut Node<Thing>, company: &Company) {
         match self.part {
             Part::Offers(thing) => self.offer(rt, node, company, thing),
             Part::Calls => self.call(rt, node, company),

@@ -54,7 +54,7 @@ impl<'s> Soaker<'s> {
     }
 
     // Waits for the others.
-    fn meet<R: Wait>(&self, rt: &R, company: &mut Company) {
+    fn meet<R: Wait>(&self, rt: &R, company: &Company) {
         self.say(rt, Doing::Meets);
         let _ = company.meet(rt);
     }
@@ -101,7 +101,7 @@ impl<'s> Soaker<'s> {
     }
 
     // Brings all that it has to rest.
-    fn end<R: Wait>(&mut self, rt: &R, node: &mut Node<Thing>, company: &mut Company) {
+    fn end<R: Wait>(&mut self, rt: &R, node: &mut Node<Thing>, company: &Company) {
         clear_others(self, rt, node);
         self.meet(rt, company);
         give_up_all(self, rt, node);
@@ -114,7 +114,7 @@ impl<'s> Soaker<'s> {
 }
 
 impl<'s> Player<Thing> for Soaker<'s> {
-    fn run<R: Wait>(&mut self, rt: &R, node: &mut Node<Thing>, company: &mut Company) {
+    fn run<R: Wait>(&mut self, rt: &R, node: &mut Node<Thing>, company: &Company) {
         let mut pocket = Pocket::new(self.alloc);
         self.offer_all(rt, node);
         self.meet(rt, company);

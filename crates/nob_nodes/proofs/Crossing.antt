@@ -8,7 +8,8 @@ use Rattle.nob_keeper.proofs.Crossing.{record_send}
 use Rattle.nob_node.specs.contracts.running.Report as Report
 use Rattle.nob_node_parts.proofs.object.Left.TheSendSync as left
 use Rattle.nob_node_parts.specs.contracts.object.Left as Left
-use Rattle.nob_nodes.proofs.running.Start.TheSendSync as start
+use Rattle.nob_nodes.proofs.running.Turn.TheSendSync as turn
+use Rattle.nob_nodes.proofs.start.Start.TheSendSync as start
 use Rattle.nob_nodes.specs.contracts.player.Played as Played
 use Rattle.nob_nodes.specs.contracts.running.Post as Post
 
@@ -19,7 +20,7 @@ module _ (O : RattleType) (crossing : IsSend O) where
   report_send : IsSend (Report.the_field O).row
   report_send = struct_send (shape (Report.the_type O)) (record_send, (Vec-send (Left.the_row O) left_send, tt))
 
-  played_send : (A : RattleType) → IsSend A → IsSend (Played.the_row O A)
+  pub played_send : (A : RattleType) → IsSend A → IsSend (Played.the_row O A)
   played_send A crosses_too =
       let T = Played.the_type O A in
       recorded_send (Struct (shape T)) T.D T.to T.to_one (struct_send (shape T) (
@@ -31,6 +32,6 @@ module _ (O : RattleType) (crossing : IsSend O) where
   post_sync A crosses_too =
       let T = Post.the_type O A in
       recorded_sync (Struct (shape T)) T.D T.to T.to_one (struct_sync (shape T) (
-        search (start.the_send, crosses_too, crosses, sendable) depth 60 fits 20000,
+        search (turn.the_send, start.the_send, crosses_too, crosses, sendable) depth 60 fits 20000,
         (search (played_send, crosses_too, crosses, sendable) depth 60 fits 20000, tt),
       ))

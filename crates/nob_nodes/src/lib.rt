@@ -7,6 +7,7 @@ mod nodes;
 mod player;
 mod running;
 mod shape;
+mod start;
 
 pub use beside::{Beside, Nobody};
 pub use meeting::{Company, Meeting};
@@ -14,3 +15,4 @@ pub use nodes::Nodes;
 pub use player::{Played, Player};
 pub use running::run_nodes;
 pub use shape::Shape;
+pub use start::Start;

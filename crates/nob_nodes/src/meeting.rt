@@ -36,8 +36,8 @@ pub struct Meeting {
 }
 
 impl Meeting {
-    // That of so many players, of whom nobody has come.
-    pub(crate) fn new(players: u64) -> Meeting {
+    /// That of so many players, of whom nobody has come.
+    pub fn new(players: u64) -> Meeting {
         Meeting {
             come: Mutex::new(Come {
                 present: players,
@@ -99,14 +99,13 @@ impl Meeting {
 }
 
 /// The other players, as one of them sees them.
-#[derive(Drop)]
+#[derive(Clone, Copy)]
 pub struct Company<'m> {
     meeting: &'m Meeting,
     // The space of its node.
     space: SpaceId,
     // How many spaces there are.
     spaces: u16,
-    has_left: bool,
 }
 
 impl<'m> Company<'m> {
@@ -119,7 +118,6 @@ impl<'m> Company<'m> {
             meeting,
             space,
             spaces,
-            has_left: false,
         }
     }
 
@@ -140,18 +138,17 @@ impl<'m> Company<'m> {
     /// Waits until all others that haven't returned come to a meeting too: whether nobody has
     /// returned. The last that comes wakes it, or the last for whom it waits that returns, and even one
     /// whose node couldn't be made.
-    pub fn meet<R: Wait>(&mut self, rt: &R) -> bool
-        ensures { self.new ≡ self.old }
-    {
+    pub fn meet<R: Wait>(&self, rt: &R) -> bool {
         self.meeting.come(rt)
     }
 
-    // Is waited for no more, and waits until all others have left.
-    pub(crate) fn leave<R: Wait>(&mut self, rt: &R) {
-        if !self.has_left {
-            self.has_left = true;
-            self.meeting.leave(rt);
-        }
+    // Is waited for no more.
+    pub(crate) fn leave<R: Wait>(&self, rt: &R) {
+        self.meeting.leave(rt);
+    }
+
+    // Waits until all have left.
+    pub(crate) fn wait_left<R: Wait>(&self, rt: &R) {
         self.meeting.wait_left(rt);
     }
 }

@@ -4,46 +4,35 @@ ghost use Rattle.std.specs.Prelude.{◌≡◌, [], IfSome};
 ghost use Rattle.nob_fault.specs.Shims.{opening};
 
 use crate::shape::Shape;
+use crate::start::Start;
 use nob_fault::{Shim, words_between};
 use nob_ids::SpaceId;
 use nob_link::{PutEnd, TakeEnd, link};
-use nob_node::{Config, Ends};
+use nob_node::Ends;
 use std::alloc::Global;
-
-/// A node to be run, with its ends of links.
-#[derive(Drop)]
-pub(crate) struct Place {
-    pub(crate) space: SpaceId,
-    pub(crate) config: Config,
-    pub(crate) ends: Vec<Ends>,
-}
 
 /// Nodes to be run, one of each space from 1 on, and the links between them.
 #[derive(Drop)]
 pub struct Nodes {
-    pub(crate) alloc: Global,
+    alloc: Global,
     shape: Shape,
-    pub(crate) places: Vec<Place>,
+    starts: Vec<Start>,
 }
 
 impl Nodes {
     /// So many nodes, of which no two are linked. `None` where memory is wanted, or a number of the
     /// shape is out of its range.
     pub fn new(alloc: Global, shape: Shape, count: u16) -> Option<Nodes> {
-        let mut places = Vec::with_capacity(alloc, usize::from(count)).ok()?;
+        let mut starts = Vec::with_capacity(alloc, usize::from(count)).ok()?;
         for number in 1..=count {
             let space = SpaceId::new(number)?;
-            let place = Place {
-                space,
-                config: shape.config(space, count)?,
-                ends: Vec::new(alloc),
-            };
-            places.push(place).ok()?;
+            let config = shape.config(space, count)?;
+            starts.push(Start::new(alloc, space, count, config)).ok()?;
         }
         Some(Nodes {
             alloc,
             shape,
-            places,
+            starts,
         })
     }
 
@@ -77,6 +66,17 @@ impl Nodes {
         Some((put_back, take_there))
     }
 
+    // What their memory comes from.
+    pub(crate) fn alloc(&self) -> Global {
+        self.alloc
+    }
+
+    /// The nodes, in the order of their spaces: for who runs each in a thread of its own.
+    pub fn into_starts(self) -> Vec<Start> {
+        let Nodes { starts, .. } = self;
+        starts
+    }
+
     // A link.
     fn made_link(&self) -> Option<(PutEnd, TakeEnd)>
         ensures { IfSome result (λ ends. (ends.0.put ≡ []) × (ends.1.taken ≡ [])) }
@@ -90,8 +90,8 @@ impl Nodes {
         requires take { take.taken ≡ [] }
     {
         let shim = self.shim(space, peer)?;
-        let place = self.places.get_mut(space.place())?;
-        place.ends.push(Ends::new(peer, put, take, shim)).ok()
+        let start = self.starts.get_mut(space.place())?;
+        start.add(Ends::new(peer, put, take, shim))
     }
 
     // The shim of the link from one space to another, unused. Only memory fails it.

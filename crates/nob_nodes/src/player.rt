@@ -14,11 +14,17 @@ use std::sync::Wait;
 pub trait Player<O: Object> {
     /// Runs once the node is there, and not where a thread of it can't be made. When all players have
     /// returned all nodes end: till then each carries out what the others' players call.
-    fn run<R: Wait>(&mut self, rt: &R, node: &mut Node<O>, company: &mut Company);
+    fn run<R: Wait>(&mut self, rt: &R, node: &mut Node<O>, company: &Company);
 
     /// Comes in the place of `run` where there is no memory for the node, or a thread of it can't be
     /// made.
     fn skip<R: Wait>(&mut self, _rt: &R) {}
+
+    /// Whether its node goes on until all others have returned too, once it has itself. Where it
+    /// doesn't the node ends, and what others call there from then on may never be answered.
+    fn stays(&self) -> bool {
+        true
+    }
 }
 
 /// A player whose node has ended. Where it left a report, that is of the space that the node's
@@ -48,13 +54,17 @@ pub(crate) struct Playing<'m, A: Drop> {
 impl<'m, O: Object, A: Player<O> + Drop> App<O> for Playing<'m, A> {
     fn run<R: Wait>(&mut self, rt: &R, node: &mut Node<O>) {
         self.has_come = true;
-        self.player.run(rt, node, &mut self.company);
+        self.player.run(rt, node, &self.company);
         self.company.leave(rt);
+        if self.player.stays() {
+            self.company.wait_left(rt);
+        }
     }
 
     fn skip<R: Wait>(&mut self, rt: &R) {
         self.has_come = true;
         self.player.skip(rt);
         self.company.leave(rt);
+        self.company.wait_left(rt);
     }
 }

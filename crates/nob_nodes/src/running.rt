@@ -5,97 +5,58 @@ ghost use Rattle.nob_nodes.specs.Shapes.{AreFrom};
 ghost use denote.Param.Send.{IsSend, IsSync};
 
 use crate::beside::Beside;
-use crate::meeting::{Company, Meeting};
-use crate::nodes::{Nodes, Place};
-use crate::player::{Played, Player, Playing};
+use crate::meeting::Meeting;
+use crate::nodes::Nodes;
+use crate::player::{Played, Player};
+use crate::start::Start;
 use nob_dispatch_objects::Object;
 use nob_ids::SpaceId;
-use nob_node::{Config, Ends, Gate, run};
+use nob_node::Gate;
 use std::alloc::Global;
 use std::sync::{Mutex, Wait};
 use std::thread::{self, Threads};
 
 /// A node to be run, and who plays there.
 #[derive(Drop)]
-struct Start<A: Drop> {
-    alloc: Global,
-    space: SpaceId,
-    config: Config,
-    ends: Vec<Ends>,
-    spaces: u16,
+struct Turn<A: Drop> {
+    start: Start,
     player: A,
 }
 
 /// The place of a node: what its thread is given, and what that leaves.
 #[derive(Drop)]
 struct Post<O: Object, A: Drop> {
-    start: Mutex<Option<Start<A>>>,
+    turn: Mutex<Option<Turn<A>>>,
     played: Mutex<Option<Played<O, A>>>,
 }
 
 impl<O: Object + Send, A: Player<O> + Drop> Post<O, A> {
     // Runs the node until all players have returned.
     fn play<R: Threads + Wait + Sync, G: Gate + Sync>(&self, rt: &R, meeting: &Meeting, gate: &G) {
-        match self.take_start(rt) {
-            Some(start) => self.put_played(rt, played_at(rt, meeting, gate, start)),
+        match self.take_turn(rt) {
+            Some(Turn { start, player }) => {
+                self.put_played(rt, start.play(rt, meeting, gate, player));
+            }
             None => meeting.leave(rt),
         }
     }
 
     // Takes no part: the ends of its links go, so the peers don't wait for it, nor the others.
     fn stay_away<R: Wait>(&self, rt: &R, meeting: &Meeting) {
-        let _ = self.take_start(rt);
+        let _ = self.take_turn(rt);
         meeting.leave(rt);
     }
 
     // What its thread is given, once.
-    fn take_start<R: Wait>(&self, rt: &R) -> Option<Start<A>> {
-        let mut start = self.start.lock(rt);
-        start.take()
+    fn take_turn<R: Wait>(&self, rt: &R) -> Option<Turn<A>> {
+        let mut turn = self.turn.lock(rt);
+        turn.take()
     }
 
     // What its thread leaves.
     fn put_played<R: Wait>(&self, rt: &R, played: Played<O, A>) {
         let mut kept = self.played.lock(rt);
         *kept = Some(played);
-    }
-}
-
-// Runs a node until all players have returned.
-fn played_at<O: Object + Send, R: Threads + Wait + Sync, G: Gate + Sync, A: Player<O> + Drop>(
-    rt: &R,
-    meeting: &Meeting,
-    gate: &G,
-    start: Start<A>,
-) -> Played<O, A> {
-    let Start {
-        alloc,
-        space,
-        config,
-        ends,
-        spaces,
-        player,
-    } = start;
-    let company = Company::new(meeting, space, spaces);
-    let mut playing = Playing {
-        player,
-        company,
-        has_come: false,
-    };
-    let left = run(rt, alloc, config, ends, gate, &mut playing);
-    let Playing {
-        mut player,
-        mut company,
-        has_come,
-    } = playing;
-    if !has_come {
-        player.skip(rt);
-        company.leave(rt);
-    }
-    Played {
-        config,
-        player,
-        left,
     }
 }
 
@@ -114,10 +75,10 @@ pub fn run_nodes<
         AreFrom 1 (length players.items) (map (λ played. played.config) all.items)) }
     ensures all { IfSome result (λ all. length all.items ≡ length players.items) }
 {
-    let Nodes { alloc, places, .. } = nodes;
+    let alloc = nodes.alloc();
     let count = u16::try_from(players.len()).ok()?;
     let spaces = SpaceId::new(count)?;
-    let posts = posts_of::<O, A>(alloc, places, players, count)?;
+    let posts = posts_of::<O, A>(alloc, nodes.into_starts(), players)?;
     let nothing = Vec::with_capacity(alloc, posts.len()).ok()?;
     let meeting = Meeting::new(u64::from(count));
     run_posts(rt, &meeting, gate, posts.as_slice(), beside);
@@ -127,63 +88,43 @@ pub fn run_nodes<
 // The place of each node, with its player. `None` where there aren't as many of these.
 fn posts_of<O: Object, A: Drop>(
     alloc: Global,
-    places: Vec<Place>,
+    starts: Vec<Start>,
     players: Vec<A>,
-    spaces: u16,
 ) -> Option<Vec<Post<O, A>>>
     ensures { IfSome result (λ posts. length posts.items ≡ length players.items) }
 {
-    if places.len() != players.len() {
+    if starts.len() != players.len() {
         return None;
     }
-    let room = Vec::with_capacity(alloc, places.len()).ok()?;
-    add_posts(alloc, places, players, spaces, room)
+    let room = Vec::with_capacity(alloc, starts.len()).ok()?;
+    add_posts(starts, players, room)
 }
 
 // The places of these nodes, with their players, in front of nothing.
 fn add_posts<O: Object, A: Drop>(
-    alloc: Global,
-    mut places: Vec<Place>,
+    mut starts: Vec<Start>,
     mut players: Vec<A>,
-    spaces: u16,
     nothing: Vec<Post<O, A>>,
 ) -> Option<Vec<Post<O, A>>>
     requires { nothing.items ≡ [] }
     ensures { IfSome result (λ posts. length posts.items ≡ length players.items) }
 {
-    if places.is_empty() || players.is_empty() {
+    if starts.is_empty() || players.is_empty() {
         return if players.is_empty() {
             Some(nothing)
         } else {
             None
         };
     }
-    let place = places.remove(0);
+    let start = starts.remove(0);
     let player = players.remove(0);
-    let mut rest = add_posts(alloc, places, players, spaces, nothing)?;
-    rest.insert(0, post_of(alloc, place, player, spaces)).ok()?;
-    Some(rest)
-}
-
-// The place of a node, with its player.
-fn post_of<O: Object, A: Drop>(alloc: Global, place: Place, player: A, spaces: u16) -> Post<O, A> {
-    let Place {
-        space,
-        config,
-        ends,
-    } = place;
-    let start = Start {
-        alloc,
-        space,
-        config,
-        ends,
-        spaces,
-        player,
-    };
-    Post {
-        start: Mutex::new(Some(start)),
+    let mut rest = add_posts(starts, players, nothing)?;
+    let post = Post {
+        turn: Mutex::new(Some(Turn { start, player })),
         played: Mutex::new(None),
-    }
+    };
+    rest.insert(0, post).ok()?;
+    Some(rest)
 }
 
 // Runs a thread for each place, and what runs beside them in this one.
@@ -243,7 +184,7 @@ fn played_in<O: Object, A: Drop>(
     ensures { IfSome result (λ played.
         (number ≡ played.config.space) × (spaces ≡ played.config.n)) }
 {
-    let Post { start: _, played } = post;
+    let Post { turn: _, played } = post;
     let played = played.into_inner()?;
     let space = SpaceId::new(number)?;
     if played.config.is_of(space, spaces) {

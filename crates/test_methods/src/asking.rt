@@ -1,0 +1,38 @@
+//! Calls, and what they say.
+
+use crate::rows::Said;
+use crate::thing::Thing;
+use nob_node::{Hold, Node, Returned};
+use nob_pickle::Value;
+use nob_two_nodes::give_back_all;
+use std::sync::Wait;
+
+// Calls a method of an object, where there is one to call and an argument for it: what that says. The
+// references in the reply are given back.
+pub(crate) fn told<R: Wait>(
+    rt: &R,
+    node: &mut Node<Thing>,
+    hold: &Option<Hold>,
+    method: u16,
+    value: Option<Value>,
+) -> Said {
+    let (Some(hold), Some(value)) = (hold, value) else {
+        return Said::Nothing;
+    };
+    match node.call(rt, hold, method, value) {
+        Ok(returned) => {
+            let said = said_of(&returned);
+            give_back_all(rt, node, returned);
+            said
+        }
+        Err((_error, _value)) => Said::Nothing,
+    }
+}
+
+// What was returned.
+fn said_of(returned: &Returned) -> Said {
+    match returned {
+        Returned::Replied { status, value, .. } => Said::of(*status, value),
+        Returned::Ended => Said::Nothing,
+    }
+}
