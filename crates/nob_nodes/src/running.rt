@@ -41,10 +41,14 @@ impl<O: Object + Send, A: Player<O> + Drop> Post<O, A> {
         }
     }
 
-    // Takes no part: the ends of its links go, so the peers don't wait for it, nor the others.
-    fn stay_away<R: Wait>(&self, rt: &R, meeting: &Meeting) {
-        let _ = self.take_turn(rt);
-        meeting.leave(rt);
+    // Doesn't run it, for want of a thread.
+    fn skip<R: Wait>(&self, rt: &R, meeting: &Meeting) {
+        match self.take_turn(rt) {
+            Some(Turn { start, player }) => {
+                self.put_played(rt, start.skip(rt, meeting, player));
+            }
+            None => meeting.leave(rt),
+        }
     }
 
     // What its thread is given, once.
@@ -62,8 +66,8 @@ impl<O: Object + Send, A: Player<O> + Drop> Post<O, A> {
 
 /// Runs these nodes, each in a thread of its own, with a player at each, the first at that of space
 /// 1, until all players have returned: they come back in the same order, with what their nodes
-/// leave. Something else runs in this thread beside them. `None` where there aren't as many players
-/// as nodes or memory is wanted, and then nothing ran; or where a node's thread can't be made.
+/// leave; one for whose node there is no memory or no thread fails alone. Something else runs in this
+/// thread beside them. `None` where there aren't as many players as nodes or memory is wanted.
 pub fn run_nodes<
     O: Object + Send,
     R: Threads + Wait + Sync,
@@ -144,7 +148,7 @@ fn run_posts<
         {
             for post in posts {
                 if scope.spawn(move || post.play(rt, meeting, gate)).is_err() {
-                    post.stay_away(rt, meeting);
+                    post.skip(rt, meeting);
                 }
             }
             beside.run(rt, meeting);

@@ -6,7 +6,7 @@ use crate::meeting::{Company, Meeting};
 use crate::player::{Played, Player, Playing};
 use nob_dispatch_objects::Object;
 use nob_ids::SpaceId;
-use nob_node::{Config, Ends, Gate, run};
+use nob_node::{Config, Ends, Gate, KeeperError, NodeError, run};
 use std::alloc::Global;
 use std::sync::Wait;
 use std::thread::Threads;
@@ -76,6 +76,31 @@ impl Start {
             config,
             player,
             left,
+        }
+    }
+
+    /// Doesn't run the node, for want of a thread: the ends of its links go, so no peer waits for it,
+    /// and its player is skipped and leaves the meeting.
+    pub fn skip<O: Object, R: Wait, A: Player<O> + Drop>(
+        self,
+        rt: &R,
+        meeting: &Meeting,
+        mut player: A,
+    ) -> Played<O, A> {
+        let Start {
+            alloc,
+            config,
+            ends,
+            ..
+        } = self;
+        drop(ends);
+        player.skip(rt);
+        meeting.leave(rt);
+        let error = NodeError::Keeper(KeeperError::OutOfMemory);
+        Played {
+            config,
+            player,
+            left: Err((error, Vec::new(alloc))),
         }
     }
 }

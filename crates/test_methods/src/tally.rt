@@ -6,10 +6,11 @@ use crate::thing::Thing;
 use nob_chain::Chain;
 use nob_chain_check::check;
 use nob_ids::JobNo;
-use nob_model_types::{Entry, Event, Outcome, Refusal};
+use nob_model_types::{Event, Outcome, Refusal};
 use nob_node::{Left, Report};
 use nob_nodes::Played;
 use nob_pickle::Value;
+use nob_trace::Stamped;
 use std::alloc::Global;
 
 /// What the nodes of a scene left.
@@ -85,7 +86,7 @@ fn say_ended(alloc: Global, chain: &Chain, rows: &mut Rows) -> Option<()> {
 }
 
 // The number of the job that an entry ended.
-fn ended_by(entry: &Entry) -> Option<u64> {
+fn ended_by(entry: &Stamped) -> Option<u64> {
     match &entry.event {
         Event::Finish(job, _) if entry.result.is_ok() => Some(job.get()),
         _ => None,
@@ -166,7 +167,7 @@ fn made_again(chain: &Chain, refusal: Refusal) -> u64 {
 }
 
 // Whether an entry was refused so.
-fn is_refused(entry: &Entry, refusal: Refusal) -> bool {
+fn is_refused(entry: &Stamped, refusal: Refusal) -> bool {
     match &entry.result {
         Err(other) => *other == refusal,
         Ok(_) => false,
