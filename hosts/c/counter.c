@@ -51,9 +51,9 @@ static bool turn(NobHandle *space, NobHandle *other) { /* what there is to do, e
 
 static uint64_t call(uint64_t index, uint16_t method, const uint8_t *pickle, size_t length) { /* and what it answers */
   NobTold told;
-  uint64_t number = ASK(call, &caller, 1, index, method, pickle, length).number;
+  ASK(call, &caller, 1, index, method, pickle, length);
   while (turn(&owner, &caller) | turn(&caller, &owner)) continue;
-  ASK(take_reply, &caller, number);
+  ASK(take_reply, &caller, nob_next_reply(&caller)); /* the one call that is answered */
   return last_number(&caller);
 }
 
@@ -73,4 +73,5 @@ int main(void) {
   printf("once it is given back: status %u\n", (unsigned)nob_withdraw(&owner, counter, &told));
   nob_end(&owner);
   nob_end(&caller);
+  return nob_keeps(&owner) || nob_keeps(&caller);
 }

@@ -8,6 +8,8 @@
  * - Where nob_version isn't NOB_VERSION, this header isn't the library's: nothing else of it is called.
  * - A handle begins as NOB_EMPTY. nob_new and nob_begin_at are called on one that keeps nothing, every other
  *   function on one that keeps a space, and none but these two after nob_end. A handle is never copied.
+ *   No function answers another one by a status: NULL, a handle that keeps nothing and a copy of one that was
+ *   ended are undefined. nob_keeps tells the first two; nothing tells the third from one that keeps a space.
  * - What nob_begin_at begins behind covers all that the life before it gave, heard and used (docs/LIVES.md).
  * - One call at a time for each handle, all on the thread that made it.
  * - A pointer with a length is one slice that nothing else writes during the call. It isn't NULL, also
@@ -76,6 +78,8 @@ typedef struct NobPeerCounts {
   uint64_t pinned;         /* items to it whose references are pinned here until it settles them */
   uint64_t unacknowledged; /* items to it that it hasn't acknowledged */
   uint64_t inbox;          /* items from it that were accepted and not acted on */
+  uint64_t waiting;        /* Calls and Replies from it that wait for their references */
+  uint64_t ready;          /* jobs of its Calls that weren't claimed */
 } NobPeerCounts;
 
 /* What stands at the front of the inbox from a peer: what a kind doesn't have is 0. */
@@ -89,7 +93,7 @@ typedef struct NobFront {
 } NobFront;
 
 /* The version of these functions. */
-enum { NOB_VERSION = 2 };
+enum { NOB_VERSION = 3 };
 
 /* Statuses. With any but NOB_OK nothing has changed at the space. 21 to 28 refuse a pickle, 41 to 52 a
  * frame or a stream, each by its first fault (P1 to P8, F1 to F12 of docs/FORMATS.md). */
@@ -222,8 +226,12 @@ void nob_counts(NobHandle *handle, NobCounts *counts);
 void nob_peer_counts(NobHandle *handle, uint16_t peer, NobPeerCounts *counts);
 /* What nob_act would act on. */
 void nob_front(NobHandle *handle, uint16_t peer, NobFront *front);
+/* The number of the call whose reply became ready first, of those that weren't taken; 0, which no call has, where none is ready. It
+ * says nothing of the calls that a close ended: nob_take_reply says NOB_ENDED of each. */
+uint64_t nob_next_reply(NobHandle *handle);
 
-/* Whether a handle keeps a space, as far as that can be seen: it isn't NULL, and what it has isn't. */
+/* Whether a handle keeps a space, as far as that can be seen: it isn't NULL, and what it has isn't. nob_end leaves one
+ * that doesn't; of a copy that was made before this says yes, wrongly. */
 static inline bool nob_keeps(const NobHandle *handle) { return handle != NULL && handle->at != NULL; }
 
 #ifdef __cplusplus

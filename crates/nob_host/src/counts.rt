@@ -8,7 +8,7 @@ ghost use Rattle.nob_space.specs.Counts as words;
 ghost use Rattle.nob_space.specs.Spaces.{StandsFor};
 ghost use Rattle.nob_host_space.specs.Counts as counts;
 ghost use Rattle.nob_host_space.specs.Kept.{Through};
-ghost use Rattle.nob_host_space.specs.Looks.{past_of};
+ghost use Rattle.nob_host_space.specs.Looks.{or_zero, past_of};
 
 use nob_host_space::{Counts, Front, Handle, PeerCounts};
 use std::alloc::Global;
@@ -17,9 +17,9 @@ use std::alloc::Global;
 /// program that was written for another one makes no space.
 #[unsafe(no_mangle)]
 pub extern "C" fn nob_version() -> u32
-    ensures { result ≡ 2 }
+    ensures { result ≡ 3 }
 {
-    2
+    3
 }
 
 /// How much the space has: objects, surrogates, calls and messages.
@@ -36,7 +36,8 @@ pub extern "C" fn nob_counts(handle: &mut Handle, alloc: Global, counted: &mut C
     handle.put(host);
 }
 
-/// How much of what the space has is with a peer: all is 0 where the number is no peer's.
+/// How much of what the space has is with a peer: all is 0 where the number is no peer's. It looks
+/// for each message of the peer that waits, and for each of its ready jobs.
 #[unsafe(no_mangle)]
 pub extern "C" fn nob_peer_counts(
     handle: &mut Handle,
@@ -72,4 +73,19 @@ pub extern "C" fn nob_front(handle: &mut Handle, alloc: Global, peer: u16, front
     let host = handle.take(alloc);
     *front = host.front(peer);
     handle.put(host);
+}
+
+/// The number of the call whose reply became ready first, of those that weren't taken, or 0 where
+/// none is ready. It says nothing of the calls that a close ended.
+#[unsafe(no_mangle)]
+pub extern "C" fn nob_next_reply(handle: &mut Handle, alloc: Global) -> u64
+    requires { IsSome handle.old.held }
+    ensures next { Through handle.old.held handle.new.held (λ old new. (L : List Entry)
+        → StandsFor old.space L → result ≡ or_zero (words.next_reply (past_of old.space L))) }
+    ensures same { Through handle.old.held handle.new.held (λ old new. new ≡ old) }
+{
+    let host = handle.take(alloc);
+    let call = host.next_reply();
+    handle.put(host);
+    call
 }

@@ -7,10 +7,10 @@ ghost use Rattle.nob_model_types.specs.Sessions.{is_peer};
 ghost use Rattle.nob_space.specs.Counts as words;
 ghost use Rattle.nob_space.specs.Spaces.{StandsFor};
 ghost use Rattle.nob_host_space.specs.Counts as counts;
-ghost use Rattle.nob_host_space.specs.Looks.{past_of};
+ghost use Rattle.nob_host_space.specs.Looks.{or_zero, past_of};
 
 use crate::host::Host;
-use nob_ids::{ItemNo, SpaceId};
+use nob_ids::{CallNo, ItemNo, SpaceId};
 use nob_model::Here;
 use nob_peek::{Seen, peek};
 use nob_space::{Counts, PeerCounts};
@@ -113,6 +113,18 @@ fn counts_of_none() -> PeerCounts
         pinned: 0,
         unacknowledged: 0,
         inbox: 0,
+        waiting: 0,
+        ready: 0,
+    }
+}
+
+// The number of a call, or 0 where there is none.
+fn call_or_zero(call: Option<CallNo>) -> u64
+    ensures { result ≡ or_zero call }
+{
+    match call {
+        Some(call) => call.get(),
+        None => 0,
     }
 }
 
@@ -125,7 +137,8 @@ impl Host {
         self.space.counts()
     }
 
-    /// How much of what the space has is with a peer: all is 0 where the number is no peer's.
+    /// How much of what the space has is with a peer: all is 0 where the number is no peer's. It
+    /// looks for each message of the peer that waits, and for each of its ready jobs.
     pub fn peer_counts(&self, peer: u16) -> PeerCounts
         ensures counts { IsSpace peer → is_peer self.now.space.id self.now.space.n peer ≡ true
             → (L : List Entry) → StandsFor self.now.space L → result
@@ -162,5 +175,15 @@ impl Host {
             return Front::nothing();
         };
         Front::of(item, peek(bytes))
+    }
+
+    /// The number of the call whose reply became ready first, of those that weren't taken, or 0
+    /// where none is ready: no call has this number. It says nothing of the calls that a close
+    /// ended. It takes no memory.
+    pub fn next_reply(&self) -> u64
+        ensures { (L : List Entry) → StandsFor self.now.space L
+            → result ≡ or_zero (words.next_reply (past_of self.now.space L)) }
+    {
+        call_or_zero(self.space.next_reply())
     }
 }

@@ -29,7 +29,7 @@ keeper_field_sync =
     let one = condvar_field_sync in
     struct_sync (shape Keeper.the_type) (
       search (crosses, sendable) depth 60,
-      (search sendable depth 30, (search (crosses, sendable) depth 60, (search (held_send, crosses, sendable) depth 60, (one, (one, (one, (Vec-sync Condvar.the_row condvar_sync, tt))))))),
+      (search sendable depth 30, (search (crosses, sendable) depth 60, (search (held_send, crosses, sendable) depth 60, (one, (Vec-sync Condvar.the_row condvar_sync, tt))))),
     )
 
 pub keeper_sync : IsSync Keeper.the_row

@@ -3,9 +3,8 @@
 ghost use Rattle.std.specs.Prelude.{◌≡◌, ◌≢◌, ◌<◌, ◌≤◌, ◌+◌, ◌-◌, ◌^◌, ◌++◌, ◌∷◌, [], ◌↔◌, ℕ, true, Some, None, slice_get, IfSome, OnOk, OnErr};
 ghost use Rattle.nob_keeper.specs.Desks as desks;
 ghost use Rattle.nob_kept.specs.Staying.{IsAmong};
-ghost use Rattle.nob_keeper.specs.declared.waking.WorkKind.{WorkKind as WorkKindOf};
 
-use crate::waking::{Wakes, WorkKind};
+use crate::waking::Wakes;
 use nob_ids::CallNo;
 use std::alloc::{AllocError, Global};
 
@@ -20,10 +19,10 @@ pub(crate) fn reply_place(call: CallNo) -> usize
     (call.get() % REPLY_PLACES as u64) as usize
 }
 
-// One kind of work.
+// Who waits for something to transmit.
 #[derive(Clone, Copy, Debug, PartialEq, Eq)]
 struct Watch {
-    // The place of the last entry that may have made work of this kind possible.
+    // The place of the last entry that may have made something to transmit.
     last: u64,
     // Whether those who wait for it are told to stop.
     stopped: bool,
@@ -35,8 +34,6 @@ struct Watch {
 #[derive(Debug, Drop)]
 pub(crate) struct Desk {
     send: Watch,
-    care: Watch,
-    claim: Watch,
     // The calls whose replies are waited for.
     waiting: Vec<CallNo>,
 }
@@ -45,40 +42,15 @@ impl Desk {
     // Nobody waits. It takes no memory.
     pub(crate) fn new(alloc: Global) -> Desk
         ensures waiting { result.waiting.items ≡ [] }
-        ensures watches { (kind : WorkKindOf) → desks.watch_of kind result
-            ≡ desks.first_watch }
+        ensures send { result.send ≡ desks.first_watch }
     {
-        let watch = Watch {
-            last: 0,
-            stopped: false,
-            parked: 0,
-        };
         Desk {
-            send: watch,
-            care: watch,
-            claim: watch,
+            send: Watch {
+                last: 0,
+                stopped: false,
+                parked: 0,
+            },
             waiting: Vec::new(alloc),
-        }
-    }
-
-    fn watch(&self, kind: WorkKind) -> Watch
-        ensures { result ≡ desks.watch_of kind self.now }
-    {
-        match kind {
-            WorkKind::Send => self.send,
-            WorkKind::Care => self.care,
-            WorkKind::Claim => self.claim,
-        }
-    }
-
-    // This is known of a kind of work.
-    fn set_watch(&mut self, kind: WorkKind, watch: Watch)
-        ensures { self.new ≡ desks.with_watch kind watch self.old }
-    {
-        match kind {
-            WorkKind::Send => self.send = watch,
-            WorkKind::Care => self.care = watch,
-            WorkKind::Claim => self.claim = watch,
         }
     }
 
@@ -89,63 +61,48 @@ impl Desk {
         if wakes.send {
             self.send.last = place;
         }
-        if wakes.care {
-            self.care.last = place;
-        }
-        if wakes.claim {
-            self.claim.last = place;
-        }
     }
 
-    // Whether no entry behind a place may have made work of a kind possible.
-    pub(crate) fn is_idle(&self, kind: WorkKind, place: u64) -> bool
-        ensures { (result ≡ true) ↔ ((desks.watch_of kind self.now).last ≤ place) }
+    // Whether no entry behind a place may have made something to transmit.
+    pub(crate) fn is_idle(&self, place: u64) -> bool
+        ensures { (result ≡ true) ↔ (self.now.send.last ≤ place) }
     {
-        self.watch(kind).last <= place
+        self.send.last <= place
     }
 
-    // Whether those who wait for work of a kind are told to stop.
-    pub(crate) fn is_stopped(&self, kind: WorkKind) -> bool
-        ensures { result ≡ (desks.watch_of kind self.now).stopped }
+    // Whether those who wait for something to transmit are told to stop.
+    pub(crate) fn is_stopped(&self) -> bool
+        ensures { result ≡ self.now.send.stopped }
     {
-        self.watch(kind).stopped
+        self.send.stopped
     }
 
-    // Tells those who wait for work of a kind to stop.
-    pub(crate) fn stop(&mut self, kind: WorkKind)
-        ensures { self.new
-            ≡ desks.with_watch kind (desks.with_stop (desks.watch_of kind self.old)) self.old }
+    // Tells those who wait for something to transmit to stop.
+    pub(crate) fn stop(&mut self)
+        ensures { self.new ≡ desks.with_watch (desks.with_stop self.old.send) self.old }
     {
-        let mut watch = self.watch(kind);
-        watch.stopped = true;
-        self.set_watch(kind, watch);
+        self.send.stopped = true;
     }
 
-    // One more waits for work of a kind.
-    pub(crate) fn park(&mut self, kind: WorkKind)
-        ensures { self.new ≡ desks.with_watch kind
-            (desks.with_one_more (desks.watch_of kind self.old)) self.old }
+    // One more waits for something to transmit.
+    pub(crate) fn park(&mut self)
+        ensures { self.new ≡ desks.with_watch (desks.with_one_more self.old.send) self.old }
     {
-        let mut watch = self.watch(kind);
-        watch.parked = watch.parked.saturating_add(1);
-        self.set_watch(kind, watch);
+        self.send.parked = self.send.parked.saturating_add(1);
     }
 
-    // One fewer waits for work of a kind.
-    pub(crate) fn unpark(&mut self, kind: WorkKind)
-        ensures { self.new ≡ desks.with_watch kind
-            (desks.with_one_fewer (desks.watch_of kind self.old)) self.old }
+    // One fewer waits for something to transmit.
+    pub(crate) fn unpark(&mut self)
+        ensures { self.new ≡ desks.with_watch (desks.with_one_fewer self.old.send) self.old }
     {
-        let mut watch = self.watch(kind);
-        watch.parked = watch.parked.saturating_sub(1);
-        self.set_watch(kind, watch);
+        self.send.parked = self.send.parked.saturating_sub(1);
     }
 
-    // Whether somebody waits for work of a kind.
-    pub(crate) fn is_parked(&self, kind: WorkKind) -> bool
-        ensures { result ≡ desks.is_parked kind self.now }
+    // Whether somebody waits for something to transmit.
+    pub(crate) fn is_parked(&self) -> bool
+        ensures { result ≡ desks.is_parked self.now }
     {
-        self.watch(kind).parked > 0
+        self.send.parked > 0
     }
 
     // One more waits for the reply to a call. Only memory fails it.
@@ -154,8 +111,6 @@ impl Desk {
             (self.new.waiting.items ≡ self.old.waiting.items ++ call ∷ []) }
         ensures err { OnErr result (self.new.waiting.items ≡ self.old.waiting.items) }
         ensures send { self.new.send ≡ self.old.send }
-        ensures care { self.new.care ≡ self.old.care }
-        ensures claim { self.new.claim ≡ self.old.claim }
     {
         self.waiting.push(call)?;
         Ok(())
@@ -165,8 +120,6 @@ impl Desk {
     pub(crate) fn leave(&mut self, call: CallNo)
         ensures waiting { desks.IsLeft call self.old.waiting.items self.new.waiting.items }
         ensures send { self.new.send ≡ self.old.send }
-        ensures care { self.new.care ≡ self.old.care }
-        ensures claim { self.new.claim ≡ self.old.claim }
     {
         if let Some(place) = place_among(self.waiting.as_slice(), call) {
             self.waiting.remove(place);

@@ -7,10 +7,9 @@ ghost use Rattle.nob_keeper.specs.Desks as desks;
 ghost use Rattle.nob_kept.specs.Seats as seats;
 ghost use Rattle.nob_kept.specs.Summaries as summaries;
 ghost use Rattle.nob_keeper.specs.Waking as waking;
-ghost use Rattle.nob_keeper.specs.declared.waking.WorkKind.TheVariants as kinds;
 
 use crate::desk::{Desk, REPLY_PLACES, reply_place};
-use crate::waking::{Prospects, Wakes, WorkKind, can_care, prospects_of, wakes_of};
+use crate::waking::{Prospects, Wakes, can_care, prospects_of, wakes_of};
 use nob_ids::{CallNo, SpaceId};
 use nob_kept::{Backlog, Due, Identity, KeeperError, Kept, Receipt, Seat, Tally};
 use nob_model_types::{Event, Here};
@@ -26,8 +25,6 @@ pub(crate) struct Held {
 #[derive(Clone, Copy, Debug)]
 pub(crate) struct Notice {
     pub(crate) send: bool,
-    pub(crate) care: bool,
-    pub(crate) claim: bool,
     // One for each place at which one waits for replies.
     pub(crate) replies: [bool; REPLY_PLACES],
     pub(crate) prospects: Prospects,
@@ -63,14 +60,14 @@ pub struct Dues {
     pub due: [Due; MOST_SPACES],
 }
 
-/// Why a wait for work ended.
+/// Why a wait for something to transmit ended.
 #[derive(Clone, Copy, Debug, PartialEq, Eq)]
 pub enum Wake {
-    /// There may be work.
+    /// There may be something.
     Work,
     /// The trace is full.
     TraceFull,
-    /// Those who wait for this kind of work are told to stop.
+    /// Those who wait for it are told to stop.
     Stopped,
 }
 
@@ -113,18 +110,18 @@ impl Held {
         !self.kept.is_full() && !self.kept.reply_ready(call)
     }
 
-    // Whether there is nothing new of a kind of work since the trace had so many entries.
-    pub(crate) fn idles(&self, kind: WorkKind, place: u64) -> bool
-        ensures { (result ≡ true) ↔ (((desks.watch_of kind self.now.desk).last ≤ place)
+    // Whether no entry may have made something to transmit since the trace had so many.
+    pub(crate) fn idles(&self, place: u64) -> bool
+        ensures { (result ≡ true) ↔ ((self.now.desk.send.last ≤ place)
             × (accounts.is_full self.now.kept ≡ false)
-            × ((desks.watch_of kind self.now.desk).stopped ≡ false)) }
+            × (self.now.desk.send.stopped ≡ false)) }
     {
-        self.desk.is_idle(kind, place) && !self.kept.is_full() && !self.desk.is_stopped(kind)
+        self.desk.is_idle(place) && !self.kept.is_full() && !self.desk.is_stopped()
     }
 
-    // Why a wait for work of a kind ended.
-    pub(crate) fn wake_of(&self, kind: WorkKind) -> Wake {
-        if self.desk.is_stopped(kind) {
+    // Why a wait for something to transmit ended.
+    pub(crate) fn wake(&self) -> Wake {
+        if self.desk.is_stopped() {
             return Wake::Stopped;
         }
         if self.kept.is_full() {
@@ -224,49 +221,20 @@ fn notice_of(kept: &Kept, desk: &Desk, receipt: &Receipt) -> Notice
     }
     let wakes = wakes_by(receipt);
     Notice {
-        send: wakes_sender(desk, wakes.send),
-        care: wakes_carer(kept, desk, wakes.care),
-        claim: wakes_claimer(kept, desk, wakes.claim),
+        send: wakes.send && desk.is_parked(),
         replies: replies_of(kept, desk.waiting(), wakes.reply),
         prospects: prospects_of(kept, wakes),
     }
-}
-
-// Whether who transmits is woken, where an entry may have made something to transmit.
-fn wakes_sender(desk: &Desk, may: bool) -> bool
-    ensures { result ≡ (may && desks.is_parked kinds.Send desk.now) }
-{
-    may && desk.is_parked(WorkKind::Send)
-}
-
-// Whether who takes care of something is woken: where there is something.
-fn wakes_carer(kept: &Kept, desk: &Desk, may: bool) -> bool
-    ensures { result ≡ (may && (desks.is_parked kinds.Care desk.now
-        && waking.can_care kept.now.id kept.now.n (accounts.history_in kept.now))) }
-{
-    may && (desk.is_parked(WorkKind::Care) && can_care(kept))
-}
-
-// Whether who claims jobs is woken: where there is one.
-fn wakes_claimer(kept: &Kept, desk: &Desk, may: bool) -> bool
-    ensures { result ≡ (may && (desks.is_parked kinds.Claim desk.now
-        && next.can_claim (accounts.history_in kept.now))) }
-{
-    may && (desk.is_parked(WorkKind::Claim) && kept.can_claim())
 }
 
 // All are woken.
 fn notice_to_all(kept: &Kept) -> Notice
     ensures prospects { waking.AreProspects kept.now (waking.all_wakes true) result.prospects }
     ensures send { result.send ≡ true }
-    ensures care { result.care ≡ true }
-    ensures claim { result.claim ≡ true }
     ensures replies { result.replies ≡ replicate 32 true }
 {
     Notice {
         send: true,
-        care: true,
-        claim: true,
         replies: [true; REPLY_PLACES],
         prospects: prospects_of(
             kept,

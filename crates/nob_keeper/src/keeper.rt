@@ -16,7 +16,7 @@ ghost use Rattle.nob_kept.specs.declared.keep.Keep.TheVariants as keeps;
 use crate::desk::{Desk, REPLY_PLACES, reply_place};
 use crate::held::{Chores, Dues, Held, Look, Notice, Wake};
 use crate::locking::lock_soon;
-use crate::waking::{Prospects, WorkKind};
+use crate::waking::Prospects;
 use nob_chain::Chain;
 use nob_ids::{CallNo, SpaceId};
 use nob_kept::{
@@ -36,10 +36,8 @@ pub struct Keeper {
     /// Which space it has.
     pub identity: Identity,
     held: Mutex<Held>,
-    // Who waits for work of a kind waits here.
+    // Who waits for something to transmit waits here.
     to_send: Condvar,
-    to_care: Condvar,
-    to_claim: Condvar,
     // Who waits for the reply to a call waits at the place of its number.
     replies: Vec<Condvar>,
     ghost places: { vec_len replies ≡ 32 },
@@ -250,25 +248,23 @@ impl Keeper {
         lock_soon(rt, &self.held).dues()
     }
 
-    /// Waits until an entry behind this place may have made work of a kind possible, the trace is
-    /// full, or those who wait for such work are told to stop. It doesn't wait where one of these
-    /// is so already.
-    pub fn wait_past<R: Wait>(&self, rt: &R, kind: WorkKind, place: u64) -> Wake {
+    /// Waits until an entry behind this place may have made something to transmit, the trace is
+    /// full, or those who wait for that are told to stop. It doesn't wait where one of these is so
+    /// already.
+    pub fn wait_past<R: Wait>(&self, rt: &R, place: u64) -> Wake {
         let mut held = lock_soon(rt, &self.held);
-        held.desk.park(kind);
-        let mut held = self
-            .place_of(kind)
-            .wait_while(rt, held, |held| held.idles(kind, place));
-        held.desk.unpark(kind);
-        held.wake_of(kind)
+        held.desk.park();
+        let mut held = self.to_send.wait_while(rt, held, |held| held.idles(place));
+        held.desk.unpark();
+        held.wake()
     }
 
-    /// Tells all who wait for work of a kind to stop, now and later.
-    pub fn stop<R: Wait>(&self, rt: &R, kind: WorkKind) {
+    /// Tells all who wait for something to transmit to stop, now and later.
+    pub fn stop<R: Wait>(&self, rt: &R) {
         let mut held = lock_soon(rt, &self.held);
-        held.desk.stop(kind);
+        held.desk.stop();
         drop(held);
-        self.place_of(kind).notify_all();
+        self.to_send.notify_all();
     }
 
     /// What went each way on the session with a peer, and how it ended: none where it is no peer.
@@ -321,8 +317,6 @@ impl Keeper {
             identity,
             held,
             to_send,
-            to_care,
-            to_claim,
             replies,
         } = self;
         let Held { kept, desk } = held.into_inner();
@@ -336,8 +330,6 @@ impl Keeper {
                     identity,
                     held: Mutex::new(Held { kept, desk }),
                     to_send,
-                    to_care,
-                    to_claim,
                     replies,
                 },
                 seats,
@@ -361,8 +353,6 @@ impl Keeper {
             identity,
             held,
             to_send,
-            to_care,
-            to_claim,
             replies,
         } = self;
         let Held { kept, desk } = held.into_inner();
@@ -376,8 +366,6 @@ impl Keeper {
                     identity,
                     held: Mutex::new(Held { kept, desk }),
                     to_send,
-                    to_care,
-                    to_claim,
                     replies,
                 },
                 seats,
@@ -393,33 +381,16 @@ impl Keeper {
             identity: _,
             held,
             to_send: _,
-            to_care: _,
-            to_claim: _,
             replies: _,
         } = self;
         let Held { kept, desk: _desk } = held.into_inner();
         kept.shut();
     }
 
-    // Where one waits for work of a kind.
-    fn place_of(&self, kind: WorkKind) -> &Condvar {
-        match kind {
-            WorkKind::Send => &self.to_send,
-            WorkKind::Care => &self.to_care,
-            WorkKind::Claim => &self.to_claim,
-        }
-    }
-
     // Wakes those who may have something to do.
     fn wake(&self, notice: &Notice) {
         if notice.send {
             self.to_send.notify_all();
-        }
-        if notice.care {
-            self.to_care.notify_all();
-        }
-        if notice.claim {
-            self.to_claim.notify_all();
         }
         for (waiters, is_ready) in self.replies.iter().zip(notice.replies.iter()) {
             if *is_ready {
@@ -457,8 +428,6 @@ fn keeper_of(alloc: Global, kept: Kept, replies: Vec<Condvar>) -> Keeper
             desk: Desk::new(alloc),
         }),
         to_send: Condvar::new(),
-        to_care: Condvar::new(),
-        to_claim: Condvar::new(),
         replies,
     }
 }

@@ -15,4 +15,4 @@ pub use nob_kept::{
     KeeperError, Kept, OpenAnswer, PeerTally, Receipt, Record, Seat, Space, Summary, Tally,
     WithdrawAnswer,
 };
-pub use waking::{Prospects, Wakes, WorkKind, is_new, wakes_of};
+pub use waking::{Prospects, Wakes, is_new, wakes_of};

@@ -11,17 +11,6 @@ use nob_ids::SpaceId;
 use nob_kept::{Due, Kept};
 use nob_model_types::{Answer, Event};
 
-/// A kind of work for which a thread may wait.
-#[derive(Clone, Copy, Debug, PartialEq, Eq)]
-pub enum WorkKind {
-    /// To transmit.
-    Send,
-    /// To settle, to clean and to withdraw. Whoever had a frame arrive acts on what it brought.
-    Care,
-    /// To claim a job.
-    Claim,
-}
-
 /// What an answered event may have made possible that wasn't.
 #[derive(Clone, Copy, Debug, PartialEq, Eq)]
 pub struct Wakes {

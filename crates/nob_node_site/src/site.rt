@@ -8,9 +8,7 @@ use nob_agents::{Calls, Carer};
 use nob_dispatch::{Desk, JobCalls};
 use nob_dispatch_objects::Object;
 use nob_ids::{CallNo, SpaceId};
-use nob_keeper::{
-    Backlog, Dues, Keeper, KeeperError, Look, Prospects, Seat, Tally, WorkKind, wakes_of,
-};
+use nob_keeper::{Backlog, Dues, Keeper, KeeperError, Look, Prospects, Seat, Tally, wakes_of};
 use nob_model_types::{Answer, Event};
 use nob_node_parts::{
     Collecting, Collects, Failure, Idlers, Inbox, Inboxes, Kept, Outbox, Replies, Start,
@@ -143,7 +141,7 @@ impl<B: Object> Site<B> {
     /// Ends all links: the end is put on each. Where the node has failed they are given up. The
     /// threads that collect and transmit end.
     pub fn end_links<R: Wait>(&self, rt: &R) {
-        self.keeper.stop(rt, WorkKind::Send);
+        self.keeper.stop(rt);
         self.transmitting.end(rt, &self.keeper, &self.failure);
     }
 

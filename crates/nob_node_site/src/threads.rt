@@ -3,7 +3,7 @@
 use crate::site::Site;
 use nob_dispatch::{Gate, Hand, carry_out};
 use nob_dispatch_objects::Object;
-use nob_keeper::{Wake, WorkKind};
+use nob_keeper::Wake;
 use nob_node_parts::{Kept, Pace, Pulse, Rest};
 use std::sync::Wait;
 
@@ -109,7 +109,7 @@ impl Standstill {
 // Waits for something to transmit behind a place: whether there may be something. Where the trace is
 // full the node has failed.
 fn is_woken<B: Object, R: Wait>(rt: &R, site: &Site<B>, place: u64) -> bool {
-    match site.keeper.wait_past(rt, WorkKind::Send, place) {
+    match site.keeper.wait_past(rt, place) {
         Wake::Work => true,
         Wake::TraceFull => {
             site.fail(rt);

@@ -28,7 +28,7 @@ use Rattle.nob_space_state.specs.Stands.{Stands, bundle}
 use Rattle.nob_space_state.proofs.Calling.{end_of_peer}
 use Rattle.nob_space_state.proofs.Told.{closed_there}
 use Rattle.nob_space_items.proofs.Refused.{surrogates_there}
-use Rattle.nob_space.specs.Counts.{counts, peer_counts, front, pinned_to, held_by}
+use Rattle.nob_space.specs.Counts.{counts, peer_counts, front, pinned_to, messages_from, held_by}
 
 -- 1 for the pins of an item to p
 abbrev one_of : ℕ → Pinned → ℕ
@@ -84,11 +84,18 @@ module _ {s n : ℕ} {limits : Limits} {st : State} {D : List Deed} (stands : St
       }
 
   -- how much of it is with p
-  pub peer_counts_there : (p : ℕ) → is_peer s n p ≡ true → {bundle_count : ℕ} {both : ℕ × ℕ} → bundle_count ≡ length (of_peer p st.pins.bundles) → both ≡ held_by (end_with st.sessions p)
-      → record { pinned = bundle_count; unacknowledged = both.0; inbox = both.1 } ≡ peer_counts p (history_of s n D)
-  peer_counts_there p peer counted held =
+  pub peer_counts_there : (p : ℕ) → is_peer s n p ≡ true → {bundle_count come able : ℕ} {both : ℕ × ℕ}
+      → bundle_count ≡ length (of_peer p st.pins.bundles) → both ≡ held_by (end_with st.sessions p) → come ≡ length (messages_from p st.work.waiting) → able ≡ length (messages_from p st.work.ready)
+      → record { pinned = bundle_count; unacknowledged = both.0; inbox = both.1; waiting = come; ready = able } ≡ peer_counts p (history_of s n D)
+  peer_counts_there p peer counted held waiting_is ready_is =
       let both_are = held ∙ held_there p peer in
-      λ i. record { pinned = (counted ∙ pinned_there p) i; unacknowledged = (both_are i).0; inbox = (both_are i).1 }
+      λ i. record {
+        pinned = (counted ∙ pinned_there p) i;
+        unacknowledged = (both_are i).0;
+        inbox = (both_are i).1;
+        waiting = (waiting_is ∙ ap (λ (W : Outstanding). length (messages_from p W.waiting)) stands.work) i;
+        ready = (ready_is ∙ ap (λ (W : Outstanding). length (messages_from p W.ready)) stands.work) i;
+      }
 
   -- the front of an open session's inbox
   pub front_there : (p : ℕ) → is_peer s n p ≡ true → has_closed st.sessions p ≡ false → front s n p (history_of s n D) ≡ right_front (calls_at p (history_of s n D))

@@ -2,6 +2,7 @@
 use Rattle.std.specs.Prelude.{ℕ, ◌&&◌, ◌==◌, not, List, length, filter, Option, Some, None, if◌then◌else◌}
 use Rattle.nob_model_session.specs.End.{unacknowledged, waiting}
 use Rattle.nob_model_session.specs.Right.{right_front}
+use Rattle.nob_model_types.specs.declared.message.Message.{Message}
 use Rattle.nob_model_types.specs.Sessions.{is_peer, closed}
 use Rattle.nob_model_history.specs.declared.history.History.{History}
 use Rattle.nob_model_history.specs.declared.transit.SentItem.{SentItem}
@@ -9,6 +10,7 @@ use Rattle.nob_model_history.specs.Ends.{calls_at}
 use Rattle.nob_model_history.specs.Transit.{bundles, surrogates}
 use Rattle.nob_model.specs.Tallies.{live_count}
 use Rattle.nob_session.specs.Stands.{Roomy}
+use Rattle.nob_space_calls.specs.Calls.{first_call}
 use Rattle.nob_space.specs.declared.counts.Counts.{Counts}
 use Rattle.nob_space.specs.declared.counts.PeerCounts.{PeerCounts}
 
@@ -29,13 +31,28 @@ counts s n h =
 abbrev pub pinned_to : ℕ → History → List SentItem
 pinned_to p h = filter (λ sent_item. sent_item.to == p) (bundles h)
 
--- how much of what a space has is with p: the items to p that have pins, those that p hasn't acknowledged, and those from p that wait to be acted on
+-- those of some messages that came from p
+abbrev pub messages_from : ℕ → List Message → List Message
+messages_from p messages = filter (λ message. message.from == p) messages
+
+-- how much of what a space has is with p: the items to p that have pins, those that p hasn't acknowledged, those from p that wait to be acted on, and p's messages that wait for their references or are ready jobs
 abbrev pub peer_counts : ℕ → History → PeerCounts
-peer_counts p h = record { pinned = length (pinned_to p h); unacknowledged = length (unacknowledged (calls_at p h)); inbox = length (waiting (calls_at p h)) }
+peer_counts p h =
+    record {
+      pinned = length (pinned_to p h);
+      unacknowledged = length (unacknowledged (calls_at p h));
+      inbox = length (waiting (calls_at p h));
+      waiting = length (messages_from p h.work.waiting);
+      ready = length (messages_from p h.work.ready);
+    }
 
 -- the item that an Act on p would act on, with its number: the front of the inbox from p, on an open session
 abbrev pub front : (s n p : ℕ) → History → Option (ℕ × List ℕ)
 front s n p h = if is_peer s n p && not (closed p h.deeds) then right_front (calls_at p h) else None
+
+-- the call of the reply that became ready first, of those that weren't taken
+abbrev pub next_reply : History → Option ℕ
+next_reply h = first_call h.work.replies
 
 -- how many payloads an end holds, where there is one: what is unacknowledged, and what waits
 abbrev pub held_by : Option Roomy → ℕ × ℕ

@@ -1,6 +1,6 @@
 //! What a space has, how much of that is with a peer, and what came from one. None takes memory.
 
-ghost use Rattle.std.specs.Prelude.{◌≡◌, List, true};
+ghost use Rattle.std.specs.Prelude.{◌≡◌, List, length, true};
 ghost use Rattle.nob_ids.specs.declared.limits.Limits.{Limits as LimitsOf};
 ghost use Rattle.nob_model_session.specs.Texts.{front_text};
 ghost use Rattle.nob_model_types.specs.declared.deed.Deed.{Deed};
@@ -13,7 +13,7 @@ ghost use Rattle.nob_space.specs.Counts as words;
 ghost use Rattle.nob_space.specs.Spaces.{StandsFor};
 
 use crate::space::Space;
-use nob_ids::{ItemNo, SpaceId};
+use nob_ids::{CallNo, ItemNo, SpaceId};
 use nob_space_state::Parts;
 
 /// How much a space has of what its memory goes to. It is laid out as C does.
@@ -46,6 +46,10 @@ pub struct PeerCounts {
     pub unacknowledged: u64,
     /// The items from the peer that were accepted and not acted on.
     pub inbox: u64,
+    /// The Calls and Replies from the peer that wait for their references.
+    pub waiting: u64,
+    /// The jobs of the peer's Calls that are ready and weren't claimed.
+    pub ready: u64,
 }
 
 // How much a space has.
@@ -83,6 +87,20 @@ fn held_with(parts: &Parts, other: SpaceId) -> (usize, usize)
     }
 }
 
+// How many messages from a peer wait for their references. A look for each of them.
+fn waiting_from(parts: &Parts, peer: SpaceId) -> usize
+    ensures { result ≡ length (words.messages_from peer parts.now.waiting.items) }
+{
+    parts.waiting.from(peer).count()
+}
+
+// How many ready jobs are of a peer's Calls. A look for each of them.
+fn ready_from(parts: &Parts, peer: SpaceId) -> usize
+    ensures { result ≡ length (words.messages_from peer parts.now.jobs.ready) }
+{
+    parts.jobs.ready_from(peer).count()
+}
+
 // How much of what a space has is with a peer.
 fn counts_with(parts: &Parts, peer: SpaceId) -> PeerCounts
     requires { is_peer parts.now.here.space parts.now.here.n peer ≡ true }
@@ -92,10 +110,14 @@ fn counts_with(parts: &Parts, peer: SpaceId) -> PeerCounts
 {
     let pinned = parts.pins.bundles(peer) as u64;
     let held = held_with(parts, peer);
+    let waiting = waiting_from(parts, peer) as u64;
+    let ready = ready_from(parts, peer) as u64;
     PeerCounts {
         pinned,
         unacknowledged: held.0 as u64,
         inbox: held.1 as u64,
+        waiting,
+        ready,
     }
 }
 
@@ -118,6 +140,15 @@ fn front_of(parts: &Parts, peer: SpaceId) -> Option<(ItemNo, &[u8])>
     }
 }
 
+// The call of the reply that became ready first.
+fn next_reply_of(parts: &Parts) -> Option<CallNo>
+    ensures { (limits : LimitsOf) (D : List Deed)
+        → StandFor limits parts.now D
+        → result ≡ words.next_reply (history_for parts.now D) }
+{
+    parts.calls.first_call()
+}
+
 impl Space {
     /// How much the space has: objects, surrogates, calls and messages. It takes no memory, and
     /// constant time.
@@ -129,8 +160,8 @@ impl Space {
         counts_of(&self.parts)
     }
 
-    /// How much of what the space has is with a peer. It takes no memory, and constant time. The
-    /// caller's condition: it is a peer.
+    /// How much of what the space has is with a peer. It takes no memory. It looks for each message
+    /// of the peer that waits, and for each of its ready jobs. The caller's condition: it is a peer.
     pub fn peer_counts(&self, peer: SpaceId) -> PeerCounts
         requires { is_peer self.now.id self.now.n peer ≡ true }
         ensures { (L : List Entry) → StandsFor self.now L
@@ -149,5 +180,16 @@ impl Space {
             (history self.now.id self.now.n L) }
     {
         front_of(&self.parts, peer)
+    }
+
+    /// The call whose reply became ready first, of the replies that weren't taken: nothing where
+    /// none is ready. It says nothing of the calls that a close ended: to those there is no reply,
+    /// and a TakeReply of each says so. It takes no memory. It passes the empty slots of the
+    /// replies that were taken before, never more than the ready replies and one.
+    pub fn next_reply(&self) -> Option<CallNo>
+        ensures { (L : List Entry) → StandsFor self.now L
+            → result ≡ words.next_reply (history self.now.id self.now.n L) }
+    {
+        next_reply_of(&self.parts)
     }
 }

@@ -146,7 +146,8 @@ impl Calls {
         self.ready.get(number)
     }
 
-    /// The call of the reply that became ready first, if one is ready. Constant time.
+    /// The call of the reply that became ready first, if one is ready. It passes the empty slots
+    /// of those that were taken before it, never more than the replies that are ready and one.
     pub fn first_call(&self) -> Option<CallNo>
         ensures { result ≡ words.first_call self.now.replies }
     {

@@ -140,7 +140,7 @@ impl Ready {
         self.messages.get(first.stamp)
     }
 
-    // The call of the reply that became ready first.
+    // The call of the reply that became ready first. Linear in the empty slots before it.
     pub(crate) fn first_call(&self) -> Option<CallNo>
         ensures { result ≡ words.first_call self.now.replies }
     {

@@ -202,6 +202,7 @@ looks! {
     nob_reply_ready => reply_ready(call: u64) -> bool;
     nob_due => due(peer: u16) -> u32;
     nob_live => live() -> u64;
+    nob_next_reply => next_reply() -> u64;
 }
 
 /// See `masttomato.h`.

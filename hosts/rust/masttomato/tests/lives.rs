@@ -500,6 +500,37 @@ fn handles_of_a_life_that_ended_are_lost_and_its_names_lead_to_the_next() {
     eventually("nobody has the counter any more", || alive.load(SeqCst) == 0);
 }
 
+// What nothing prevents: a node has in memory alone who used a number, so that one that begins again lets another process in under
+// it. A process without bounds is told so on the first page.
+#[test]
+fn a_node_that_begins_again_has_forgotten_who_used_a_number() {
+    let (folder, port) = (Folder::new("forgotten"), port());
+    let file = bounds_of(&folder.0, 1);
+    let two = || {
+        let peers = Peers::none().with(id(1), format!("127.0.0.1:{port}"));
+        let builder = Node::builder(id(2), peers).spaces(id(SPACES)).world("lives");
+        builder.start().expect("a node")
+    };
+    let one = next_life(1, &file, Peers::none(), port);
+    let (counter, _alive) = tally(&one);
+    one.bind("counter", &counter).expect("a name");
+    let first = two();
+    assert!(first.lookup::<dyn Counter>(id(1), "counter").wait_for(SOON).is_ok());
+    first.shutdown(SOON);
+    let second = two();
+    let refused = second.lookup::<dyn Counter>(id(1), "counter").wait_for(SOON);
+    assert_eq!(refused.expect_err("it was used"), CallError::Refused(id(1), Why::NumberUsed));
+    second.shutdown(SOON);
+    one.shutdown(SOON);
+
+    let one = next_life(1, &file, Peers::none(), port);
+    let (counter, _alive) = tally(&one);
+    one.bind("counter", &counter).expect("a name");
+    let third = two();
+    let found = || third.lookup::<dyn Counter>(id(1), "counter").wait_for(SOON).is_ok();
+    eventually("it is let in", found);
+}
+
 #[test]
 fn a_life_below_the_latest_is_refused() {
     let (folder, port) = (Folder::new("older"), port());

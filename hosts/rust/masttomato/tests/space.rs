@@ -156,7 +156,7 @@ fn what_a_space_has_is_counted_and_what_came_is_seen() {
     let agent = id(1).agent();
     let value = Value::List(vec![Value::Ref(object), Value::Ref(agent), Value::Ref(object)]);
     let call = one.call(id(2).agent(), 7, &value).unwrap();
-    let pinned = PeerCounts { pinned: 1, unacknowledged: 1, inbox: 0 };
+    let pinned = PeerCounts { pinned: 1, unacknowledged: 1, ..PeerCounts::default() };
     assert_eq!(one.peer_counts(id(2)), pinned);
     assert_eq!(one.counts(), Counts { live: 1, calls: 1, ..Counts::default() });
     assert_eq!(two.front(id(1)), None);
@@ -168,14 +168,44 @@ fn what_a_space_has_is_counted_and_what_came_is_seen() {
     assert_eq!(front.is, FrontItem::Call { call, target: 0, method: 7, references: 3 });
     two.act(id(1)).unwrap();
     assert_eq!(two.counts(), Counts { surrogates: 1, waiting: 1, ..Counts::default() });
+    assert_eq!((two.peer_counts(id(1)).waiting, two.peer_counts(id(1)).ready), (1, 0));
     exchange(&mut one, &mut two);
     assert_eq!(two.counts(), Counts { surrogates: 1, ready: 1, ..Counts::default() });
     assert_eq!(one.peer_counts(id(2)).pinned, 0);
+    assert_eq!((two.peer_counts(id(1)).waiting, two.peer_counts(id(1)).ready), (0, 1));
     two.claim().unwrap();
+    assert_eq!(two.peer_counts(id(1)).ready, 0);
     assert_eq!((two.counts().running, two.counts().messages()), (1, 1));
     // A session that has closed has nothing in front.
     two.close(id(1)).unwrap();
     assert_eq!((two.front(id(1)), two.front(id(2))), (None, None));
+}
+
+// The replies are told in the order of their coming, and a call that a close ended has none.
+#[test]
+fn the_reply_that_became_ready_first_is_the_next() {
+    let [mut one, mut two, mut three] = spaces();
+    let mut call = |peer| one.call(id(peer).agent(), 0, &Value::Unit).unwrap();
+    let [first, second, third] = [2, 3, 2].map(&mut call);
+    exchange(&mut one, &mut two);
+    exchange(&mut one, &mut three);
+    assert_eq!(one.next_reply(), None);
+    let answer = |space: &mut Space| {
+        let job = space.claim().unwrap().job;
+        space.finish(job, &Outcome::Answer(Value::Unit)).unwrap();
+    };
+    answer(&mut three);
+    exchange(&mut one, &mut three);
+    answer(&mut two);
+    exchange(&mut one, &mut two);
+    assert_eq!(one.next_reply(), Some(second));
+    one.take_reply(second).unwrap();
+    assert_eq!(one.next_reply(), Some(first));
+    one.close(id(2)).unwrap();
+    assert_eq!(one.next_reply(), Some(first));
+    one.take_reply(first).unwrap();
+    assert_eq!(one.next_reply(), None);
+    assert_eq!(one.take_reply(third), Ok(CallResult::Ended));
 }
 
 #[test]
@@ -393,7 +423,7 @@ fn a_session_is_opened_anew_and_the_trace_says_so() {
 // A library of another version can't be linked here: so only what is said of one.
 #[test]
 fn a_library_of_another_version_is_said_to_be_that() {
-    let said = "the library nob_host that is linked has functions of version 1; this crate wants those of 2";
+    let said = "the library nob_host that is linked has functions of version 1; this crate wants those of 3";
     assert_eq!(SpaceError::OtherVersion(1).to_string(), said);
     assert_eq!(BirthError::OtherVersion(1).to_string(), said);
     assert_eq!(masttomato_sys::version(), masttomato_sys::VERSION);

@@ -174,6 +174,10 @@ pub struct PeerCounts {
     pub unacknowledged: u64,
     /// The items from the peer that were accepted and not acted on.
     pub inbox: u64,
+    /// The Calls and Replies from the peer that wait for their references.
+    pub waiting: u64,
+    /// The jobs of the peer's Calls that are ready and weren't claimed.
+    pub ready: u64,
 }
 
 /// What stands at the front of the inbox from a peer: what an Act would act on.
@@ -205,9 +209,9 @@ pub struct Front {
 /// The version of the library's functions that this crate was written for. A library of another one makes no space.
 ///
 /// ```
-/// assert_eq!(masttomato_sys::VERSION, 2);
+/// assert_eq!(masttomato_sys::VERSION, 3);
 /// ```
-pub const VERSION: u32 = 2;
+pub const VERSION: u32 = 3;
 
 /// The version of the functions of the library that is linked; the stand-in's is [`VERSION`].
 ///

@@ -99,6 +99,7 @@ unsafe extern "C" {
     fn nob_counts(handle: *mut RawHandle, counts: *mut Counts);
     fn nob_peer_counts(handle: *mut RawHandle, peer: u16, counts: *mut PeerCounts);
     fn nob_front(handle: *mut RawHandle, peer: u16, front: *mut Front);
+    fn nob_next_reply(handle: *mut RawHandle) -> u64;
 
     fn nob_version() -> u32;
 }
@@ -380,6 +381,12 @@ impl Handle {
         // SAFETY: as of `lists`; the front is written alone.
         unsafe { nob_front(self.0.get(), peer, &mut front) };
         front
+    }
+
+    /// The number of the call whose reply became ready first, or 0.
+    pub fn next_reply(&self) -> u64 {
+        // SAFETY: as of `lists`.
+        unsafe { nob_next_reply(self.0.get()) }
     }
 
     /// How many objects are live.

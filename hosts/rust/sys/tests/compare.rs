@@ -223,6 +223,7 @@ mod compared {
             let _: Work = both!(&mut *pair, work);
             both!(&mut *pair, value);
             both!(&mut *pair, live);
+            both!(&mut *pair, next_reply);
             let _: Counts = both!(&mut *pair, counts);
             for peer in 0..=4 {
                 both!(&mut *pair, due, peer);

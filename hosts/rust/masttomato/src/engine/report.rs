@@ -368,7 +368,7 @@ impl Report {
 
     fn put_sessions(&self, f: &mut fmt::Formatter<'_>) -> fmt::Result {
         type Look = fn(&SessionReport) -> u64;
-        let gauges: [(&str, &str, Look); 9] = [
+        let gauges: [(&str, &str, Look); 11] = [
             ("session_up", "Whether there is a connection and the session is open.", |one| {
                 u64::from(one.session == Session::Open)
             }),
@@ -387,6 +387,12 @@ impl Report {
             }),
             ("session_inbox", "Items of the peer that wait to be acted on.", |one| {
                 one.of_space.inbox
+            }),
+            ("session_waiting", "Calls and answers of the peer that wait for references.", |one| {
+                one.of_space.waiting
+            }),
+            ("session_ready", "Calls of the peer that are to be carried out.", |one| {
+                one.of_space.ready
             }),
         ];
         for (name, help, look) in gauges {

@@ -752,6 +752,8 @@ impl Builder {
     /// may take its number when it has ended, or was killed. Peers that knew an earlier life close their sessions with that as soon
     /// as they are connected to this one, and open them again; what they had of it is lost.
     ///
+    /// Without bounds the number is for this one process, for the whole life of its world: see [`Node::builder`].
+    ///
     /// ```
     /// # use masttomato::space::{Bounds, World};
     /// # use masttomato::{Node, Peers, SpaceId};
@@ -1031,6 +1033,11 @@ impl fmt::Debug for Node {
 
 impl Node {
     /// What a node of this number among these peers is started with.
+    ///
+    /// Unless it [keeps bounds](Builder::bounds), no other process may ever have had this number in its world, nor have
+    /// it later. Nodes that knew another one refuse it (`NumberUsed`), but those that began again since then have
+    /// forgotten it and let it in, and then an old reference names an object of the wrong process. So who starts
+    /// processes without bounds counts their numbers up, also when others were restarted.
     ///
     /// ```
     /// # use masttomato::{Node, Peers, SpaceId};

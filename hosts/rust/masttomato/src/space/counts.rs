@@ -62,6 +62,10 @@ pub struct PeerCounts {
     pub unacknowledged: u64,
     /// The items from the peer that were accepted and not acted on.
     pub inbox: u64,
+    /// The Calls and Replies from the peer that wait for their references.
+    pub waiting: u64,
+    /// The jobs of the peer's Calls that are ready and weren't claimed.
+    pub ready: u64,
 }
 
 /// What stands at the front of the inbox from a peer: see [`Space::front`](crate::space::Space::front).

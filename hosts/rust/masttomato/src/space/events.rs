@@ -1522,7 +1522,8 @@ impl Space {
         }
     }
 
-    /// How much of what the space has is with a peer; nothing where the space is no peer. Constant time.
+    /// How much of what the space has is with a peer; nothing where the space is no peer. Linear in the peer's messages
+    /// that wait and its ready jobs.
     ///
     /// ```
     /// # use masttomato::space::*;
@@ -1530,7 +1531,7 @@ impl Space {
     /// # let mut space = Space::new(one, two, Limits::default())?;
     /// let object = space.export()?;
     /// space.call(two.agent(), 0, &Value::Ref(object))?;
-    /// let counts = PeerCounts { pinned: 1, unacknowledged: 1, inbox: 0 };
+    /// let counts = PeerCounts { pinned: 1, unacknowledged: 1, ..PeerCounts::default() };
     /// assert_eq!((space.peer_counts(two), space.peer_counts(one)), (counts, PeerCounts::default()));
     /// # Ok::<(), SpaceError>(())
     /// ```
@@ -1540,6 +1541,8 @@ impl Space {
             pinned: counts.pinned,
             unacknowledged: counts.unacknowledged,
             inbox: counts.inbox,
+            waiting: counts.waiting,
+            ready: counts.ready,
         }
     }
 
@@ -1586,6 +1589,36 @@ impl Space {
             other => unknown("kind of an item", other),
         };
         Some(Front { item: ItemNo::new(front.item), is })
+    }
+
+    /// The call whose reply became ready first, of those that weren't taken: what [`take_reply`](Space::take_reply) is
+    /// asked next where many calls are on their way. None where no reply is ready. It says nothing of the calls that
+    /// a close ended: `take_reply` says [`CallResult::Ended`] of each.
+    ///
+    /// ```
+    /// # use masttomato::space::*;
+    /// # fn carry(from: &mut Space, to: &mut Space) -> Result<(), SpaceError> {
+    /// #     for frame in from.transmit(to.id())?.iter() {
+    /// #         to.arrive(&frame)?;
+    /// #     }
+    /// #     while to.act(from.id()).is_ok() || to.settle().is_ok() || to.clean().is_ok() {}
+    /// #     Ok(())
+    /// # }
+    /// # let [one, two] = [1, 2].map(|number| SpaceId::new(number).expect("1 to 32"));
+    /// # let mut caller = Space::new(one, two, Limits::default())?;
+    /// # let mut owner = Space::new(two, two, Limits::default())?;
+    /// let call = caller.call(two.agent(), 0, &Value::Unit)?;
+    /// assert_eq!(caller.next_reply(), None);
+    /// carry(&mut caller, &mut owner)?;
+    /// let job = owner.claim()?;
+    /// owner.finish(job.job, &Outcome::NoMethod)?;
+    /// carry(&mut owner, &mut caller)?;
+    /// assert_eq!(caller.next_reply(), Some(call));
+    /// # Ok::<(), SpaceError>(())
+    /// ```
+    pub fn next_reply(&self) -> Option<CallNo> {
+        let call = self.handle.next_reply();
+        (call > 0).then(|| CallNo::new(call))
     }
 
     /// Whether a trace or a chain is kept.

@@ -662,7 +662,7 @@ impl Handle {
     /// # let mut handle = Handle::new(1, 2, 8, 16)?;
     /// handle.export();
     /// handle.call(2, 0, 0, &[4, 0, 1, 0, 0, 0, 0, 0, 0, 0, 1]);        // with a reference to 1.1
-    /// let counts = PeerCounts { pinned: 1, unacknowledged: 1, inbox: 0 };
+    /// let counts = PeerCounts { pinned: 1, unacknowledged: 1, ..PeerCounts::default() };
     /// assert_eq!((handle.peer_counts(2), handle.peer_counts(1)), (counts, PeerCounts::default()));
     /// # Ok::<(), u32>(())
     /// ```
@@ -687,6 +687,37 @@ impl Handle {
     /// ```
     pub fn front(&self, peer: u16) -> Front {
         if self.space.is_peer(peer) { self.space.front(peer) } else { Front::default() }
+    }
+
+    /// The number of the call whose reply became ready first, of those that weren't taken; 0, which no call has, where
+    /// none is ready. It says nothing of the calls that a close ended.
+    ///
+    /// ```
+    /// # use masttomato_sys::stand_in::Handle;
+    /// # let (mut one, mut two) = (Handle::new(1, 2, 8, 16)?, Handle::new(2, 2, 8, 16)?);
+    /// # let carry = |from: &mut Handle, sender: u16, to: &mut Handle, receiver: u16| {
+    /// #     from.transmit(receiver);
+    /// #     let mut frames = [0; 500];
+    /// #     let length = from.answer(&mut frames);
+    /// #     to.push(sender, &frames[..length]);
+    /// #     while to.bring_next().0 == 0 || to.act(sender).0 == 0 {}
+    /// # };
+    /// one.call(2, 0, 0, &[0]);
+    /// one.call(2, 0, 0, &[0]);
+    /// assert_eq!(one.next_reply(), 0);
+    /// carry(&mut one, 1, &mut two, 2);
+    /// for _ in 0..2 {
+    ///     let job = two.claim().1.number;
+    ///     two.finish(job, 2, &[]);
+    /// }
+    /// carry(&mut two, 2, &mut one, 1);
+    /// assert_eq!(one.next_reply(), 1);
+    /// one.take_reply(1);
+    /// assert_eq!(one.next_reply(), 2);
+    /// # Ok::<(), u32>(())
+    /// ```
+    pub fn next_reply(&self) -> u64 {
+        self.space.next_reply().unwrap_or(0)
     }
 
     /// How many objects are live.

@@ -117,7 +117,8 @@ pub(super) struct Space {
     running: HashMap<u64, Message>,
     busy: BTreeSet<u64>,
     claimed: u64,
-    ready_replies: usize,
+    // The calls that have a ready reply, in order of its becoming ready.
+    replied: VecDeque<u64>,
 }
 
 type Refused = u32;
@@ -145,7 +146,7 @@ impl Space {
             running: HashMap::new(),
             busy: BTreeSet::new(),
             claimed: birth.jobs,
-            ready_replies: 0,
+            replied: VecDeque::new(),
         }
     }
 
@@ -279,7 +280,7 @@ impl Space {
         }
         match self.calls.remove(&call) {
             Some(Call::Ready(status, message)) => {
-                self.ready_replies -= 1;
+                self.replied.retain(|other| *other != call);
                 for reference in &message.value.references {
                     self.table.add_hand(*reference);
                     self.table.give_back(*reference);
@@ -439,7 +440,7 @@ impl Space {
             }
         }
         let in_all =
-            self.messages.len() + self.ready.len() + self.running.len() + self.ready_replies;
+            self.messages.len() + self.ready.len() + self.running.len() + self.replied.len();
         if in_all >= MOST_LIVE || !self.table.has_surrogate_room(asked.len()) {
             return Err(LIMIT);
         }
@@ -495,7 +496,7 @@ impl Space {
         match message.purpose {
             Purpose::Call { .. } => self.ready.push_back(message),
             Purpose::Reply { call, status } => {
-                self.ready_replies += 1;
+                self.replied.push_back(call);
                 self.calls.insert(call, Call::Ready(status, message));
             }
         }
@@ -705,14 +706,17 @@ impl Space {
             waiting: self.messages.len() as u64,
             ready: self.ready.len() as u64,
             running: self.running.len() as u64,
-            replies: self.ready_replies as u64,
+            replies: self.replied.len() as u64,
         }
     }
 
     pub(super) fn peer_counts(&self, peer: u16) -> PeerCounts {
         let pinned = self.pins.keys().filter(|(to, _)| *to == peer).count() as u64;
         let (unacknowledged, inbox) = self.session(peer).held();
-        PeerCounts { pinned, unacknowledged, inbox }
+        let is_from = |message: &&Message| message.peer == peer;
+        let waiting = self.messages.values().filter(is_from).count() as u64;
+        let ready = self.ready.iter().filter(is_from).count() as u64;
+        PeerCounts { pinned, unacknowledged, inbox, waiting, ready }
     }
 
     pub(super) fn front(&self, peer: u16) -> Front {
@@ -725,6 +729,11 @@ impl Space {
 
     pub(super) fn reply_ready(&self, call: u64) -> bool {
         !matches!(self.calls.get(&call), Some(Call::Out { .. }))
+    }
+
+    /// The call whose reply became ready first.
+    pub(super) fn next_reply(&self) -> Option<u64> {
+        self.replied.front().copied()
     }
 }
 
