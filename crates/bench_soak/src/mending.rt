@@ -64,17 +64,13 @@ pub(crate) fn is_closed<R: Wait>(rt: &R, node: &mut Node<Thing>, peer: SpaceId) 
 }
 
 // Opens a session anew, once no name stands for a reference of another space, and sends something: the
-// peer may not have heard of the close. Where the links to the peer
-// are let go nothing would come of it: what is handed over in such a session stays.
+// peer may not have heard of the close. Where the links to the peer are let go that closes it again.
 pub(crate) fn open_anew<R: Wait>(
     soaker: &mut Soaker,
     rt: &R,
     node: &mut Node<Thing>,
     peer: SpaceId,
 ) {
-    if soaker.round.cut_between(soaker.space, peer).is_some() {
-        return;
-    }
     unbind_from(soaker, rt, node, 1);
     soaker.say(rt, Doing::Opens(peer.get()));
     for _ in 0..TRIES {
