@@ -1,13 +1,11 @@
 -- What an answered event may have made possible at its space, and what there is to take care of.
-use Rattle.std.specs.Prelude.{◌≡◌, ◌↔◌, ◌≤◌, ◌⊎◌, ℕ, ◌%◌, Bool, true, false, ◌||◌, ◌&&◌, List, Result, Ok, Err, Some, is_some, slice_get, if◌then◌else◌}
-use Rattle.std.specs.List.{Contains}
+use Rattle.std.specs.Prelude.{◌≡◌, ◌↔◌, ◌≤◌, ◌⊎◌, ℕ, Bool, true, false, ◌||◌, ◌&&◌, List, Result, Ok, Err, is_some, if◌then◌else◌}
 use Rattle.nob_model_types.specs.declared.event.Event.{Event}
 use Rattle.nob_model_types.specs.declared.event.Event.TheVariants as events
 use Rattle.nob_model_types.specs.declared.answer.Answer.{Answer}
-use Rattle.nob_model_types.specs.declared.answer.Answer.TheVariants as answers
 use Rattle.nob_model_history.specs.declared.history.History.{History}
 use Rattle.nob_model_types.specs.declared.refusal.Refusal.{Refusal}
-use Rattle.nob_model.specs.Next.{can_settle, can_clean, can_claim, to_withdraw, reply_ready}
+use Rattle.nob_model.specs.Next.{can_settle, can_clean, can_claim, to_withdraw}
 use Rattle.nob_session.specs.declared.due.Due.{Due}
 use Rattle.nob_session.specs.declared.due.Due.TheVariants as dues
 use Rattle.nob_space_state.specs.Dues.{due}

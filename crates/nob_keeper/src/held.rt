@@ -221,10 +221,17 @@ fn notice_of(kept: &Kept, desk: &Desk, receipt: &Receipt) -> Notice
     }
     let wakes = wakes_by(receipt);
     Notice {
-        send: wakes.send && desk.is_parked(),
+        send: wakes_sender(desk, wakes.send),
         replies: replies_of(kept, desk.waiting(), wakes.reply),
         prospects: prospects_of(kept, wakes),
     }
+}
+
+// Whether who transmits is woken, where an entry may have made something to transmit.
+fn wakes_sender(desk: &Desk, may: bool) -> bool
+    ensures { result ≡ (may && desks.is_parked desk.now) }
+{
+    may && desk.is_parked()
 }
 
 // All are woken.

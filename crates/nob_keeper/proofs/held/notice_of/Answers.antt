@@ -1,4 +1,4 @@
-use Rattle.std.proofs.Common.{◌≡◌, ℕ, Bool, List, ◌&&◌, sym, ap, subst, ◌∙◌}
+use Rattle.std.proofs.Common.{ℕ, List, ◌&&◌, sym, ap, subst, ◌∙◌}
 use Rattle.nob_model.specs.Next.{reply_ready}
 use Rattle.nob_keeper.specs.declared.waking.Wakes.{Wakes}
 use Rattle.nob_kept.specs.Accounts.{history_in}
@@ -20,6 +20,6 @@ returns c =
     let is = c.wakes_by-wakes.ensures in
     notice_some kept desk c.args.receipt.now _ (sym c.is_full.ensures ∙ c.if-is_full.false)
     (subst (λ (wakes : Wakes). AreProspects kept wakes c.prospects_of.result) is (record { send = c.prospects_of.ensures.send; care = c.prospects_of.ensures.care; claim = c.prospects_of.ensures.claim }))
-    (ap (λ (b : Bool). c.wakes_by-wakes.result.send && b) c.is_parked.ensures ∙ ap (λ (wakes : Wakes). wakes.send && desks.is_parked desk) is)
+    (c.wakes_sender.ensures ∙ ap (λ (wakes : Wakes). wakes.send && desks.is_parked desk) is)
     (subst (λ (wakes : Wakes). desks.AreMarked (λ call. wakes.reply && reply_ready call h) c.replies_of.result desk.waiting.items) is
     (subst (λ (calls : List ℕ). desks.AreMarked (λ call. c.wakes_by-wakes.result.reply && reply_ready call h) c.replies_of.result calls) c.waiting.ensures c.replies_of.ensures))

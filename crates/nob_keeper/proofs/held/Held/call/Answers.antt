@@ -1,7 +1,7 @@
-use Rattle.std.proofs.Common.{◌≡◌, List, Option, Some, refl, sym, ap, subst, ◌∙◌}
+use Rattle.std.proofs.Common.{◌≡◌, refl, sym, subst}
 use Rattle.nob_kept.specs.declared.identity.Identity.{Identity}
 use Rattle.nob_kept.specs.declared.receipt.Receipt.{Receipt}
-use Rattle.nob_kept.specs.Accounts.{Account, identity_of, with_next}
+use Rattle.nob_kept.specs.Accounts.{Account, with_next}
 use Rattle.nob_kept.specs.Receipts.{entry_of}
 use Rattle.nob_kept.specs.Seats as seats
 use Rattle.nob_keeper.specs.Waking.{AreProspectsBehind}

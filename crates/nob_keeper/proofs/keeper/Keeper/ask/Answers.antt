@@ -1,7 +1,7 @@
 use Rattle.nob_kept.proofs.Fitting.{added_kind}
 use Rattle.nob_keeper.proofs.keeper.Keeper.ask.Goals as goal
 
-pub answer-requires-clause-kind : goal.answer-requires-clause-kind
-answer-requires-clause-kind g c =
+pub answer-requires : goal.answer-requires
+answer-requires g c =
     let adds = (c.in_ok-call.ensures {u = tt}).adds in
-    added_kind g.A.AnswerKind.is_one c.args.event.now c.args.seat.now c.call.new.seat adds.0 adds.1 adds.2 c.requires.kind
+    record { kind = added_kind g.A.AnswerKind.is_one c.args.event.now c.args.seat.now c.call.new.seat adds.0 adds.1 adds.2 c.requires.kind }
