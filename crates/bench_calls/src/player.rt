@@ -58,13 +58,7 @@ impl<'c, C: Clock> Player<'c, C> {
     }
 
     // Has an object for the others until they are done.
-    fn offer<R: Wait>(
-        &mut self,
-        rt: &R,
-        node: &mut Node<Thing>,
-        company: &Company,
-        thing: Thing,
-    ) {
+    fn offer<R: Wait>(&mut self, rt: &R, node: &mut Node<Thing>, company: &Company, thing: Thing) {
         let hold = offer(rt, node, thing, NAME);
         if self.task.kind == Kind::Apart {
             offer_each(rt, node, thing, company.spaces());

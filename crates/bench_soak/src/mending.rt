@@ -14,11 +14,11 @@ use std::sync::Wait;
 /// So often it tries to open a session, while something of the peer's is still under way here.
 const TRIES: u32 = 20;
 
-// Opens each session anew that is closed, once what others keep is given back and no name stands for
-// a reference of another space.
+// Opens each session anew that is closed, once what others keep is given back and no name stands
+// for a reference of another space.
 //
-// Over links that lose, sessions are closed here alone, where nobody waits for a reply: a peer whose
-// Close is lost hears of it only when it sends something itself. So each sends something.
+// Over links that lose, sessions are closed here alone, where nobody waits for a reply: a peer
+// whose Close is lost hears of it only when it sends something itself. So each sends something.
 pub(crate) fn mend<R: Wait>(soaker: &mut Soaker, rt: &R, node: &mut Node<Thing>) {
     clear_others(soaker, rt, node);
     if soaker.round.shape.loss > 0 {
@@ -63,8 +63,9 @@ pub(crate) fn is_closed<R: Wait>(rt: &R, node: &mut Node<Thing>, peer: SpaceId) 
     }
 }
 
-// Opens a session anew, once no name stands for a reference of another space, and sends something: the
-// peer may not have heard of the close. Where the links to the peer are let go that closes it again.
+// Opens a session anew, once no name stands for a reference of another space, and sends something:
+// the peer may not have heard of the close. Where the links to the peer are let go that closes it
+// again.
 pub(crate) fn open_anew<R: Wait>(
     soaker: &mut Soaker,
     rt: &R,

@@ -1,4 +1,5 @@
-//! Any number of nodes in threads of one program, joined by links: what programs with nodes stand on.
+//! Any number of nodes in threads of one program, joined by links: what programs with nodes stand
+//! on.
 #![tactic(auto)]
 
 mod beside;

@@ -74,8 +74,8 @@ impl Meeting {
         self.changed.notify_all();
     }
 
-    /// Waits until so many meetings are over, or nobody is left. Each meeting that ends wakes it, and
-    /// each that leaves.
+    /// Waits until so many meetings are over, or nobody is left. Each meeting that ends wakes it,
+    /// and each that leaves.
     pub fn wait_for<R: Wait>(&self, rt: &R, meetings: u64) {
         let come = self.changed.wait_while(rt, self.come.lock(rt), |come| {
             come.meetings < meetings && come.present > 0
@@ -136,8 +136,8 @@ impl<'m> Company<'m> {
     }
 
     /// Waits until all others that haven't returned come to a meeting too: whether nobody has
-    /// returned. The last that comes wakes it, or the last for whom it waits that returns, and even one
-    /// whose node couldn't be made.
+    /// returned. The last that comes wakes it, or the last for whom it waits that returns, and even
+    /// one whose node couldn't be made.
     pub fn meet<R: Wait>(&self, rt: &R) -> bool {
         self.meeting.come(rt)
     }

@@ -47,8 +47,8 @@ impl Nodes {
         Some(nodes)
     }
 
-    /// A link each way between the nodes of two spaces. `None` where memory is wanted, or there is no
-    /// such node.
+    /// A link each way between the nodes of two spaces. `None` where memory is wanted, or there is
+    /// no such node.
     pub fn link(&mut self, first: SpaceId, second: SpaceId) -> Option<()> {
         let (put_there, take_there) = self.made_link()?;
         let (put_back, take_back) = self.made_link()?;

@@ -12,12 +12,12 @@ use std::sync::Wait;
 
 /// What an application does at one of several nodes, whose objects are of a type of its own.
 pub trait Player<O: Object> {
-    /// Runs once the node is there, and not where a thread for it can't be made. When all players have
-    /// returned all nodes end: till then each carries out what the others' players call.
+    /// Runs once the node is there, and not where a thread for it can't be made. When all players
+    /// have returned all nodes end: till then each carries out what the others' players call.
     fn run<R: Wait>(&mut self, rt: &R, node: &mut Node<O>, company: &Company);
 
-    /// Comes in the place of `run` where there is no memory for the node, or a thread for it can't be
-    /// made.
+    /// Comes in the place of `run` where there is no memory for the node, or a thread for it can't
+    /// be made.
     fn skip<R: Wait>(&mut self, _rt: &R) {}
 
     /// Whether its node goes on until all others have returned too, once it has itself. Where it

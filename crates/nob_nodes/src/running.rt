@@ -66,8 +66,8 @@ impl<O: Object + Send, A: Player<O> + Drop> Post<O, A> {
 
 /// Runs these nodes, each in a thread of its own, with a player at each, the first at that of space
 /// 1, until all players have returned: they come back in the same order, with what their nodes
-/// leave; one for whose node there is no memory or no thread fails alone. Something else runs in this
-/// thread beside them. `None` where there aren't as many players as nodes or memory is wanted.
+/// leave; one for whose node there is no memory or no thread fails alone. Something else runs in
+/// this thread beside them. `None` where there aren't as many players as nodes or memory is wanted.
 pub fn run_nodes<
     O: Object + Send,
     R: Threads + Wait + Sync,
@@ -178,8 +178,8 @@ fn played_from<O: Object, A: Drop>(
     Some(rest)
 }
 
-// What the place of a space leaves, of so many. That its node was of this space is looked at once more:
-// it always was.
+// What the place of a space leaves, of so many. That its node was of this space is looked at once
+// more: it always was.
 fn played_in<O: Object, A: Drop>(
     post: Post<O, A>,
     number: u16,

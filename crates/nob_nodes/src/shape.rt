@@ -29,8 +29,8 @@ pub struct Shape {
 }
 
 impl Shape {
-    /// Two workers a node, which keeps this of its entries; links of 64 parcels that lose nothing; no
-    /// ticks.
+    /// Two workers a node, which keeps this of its entries; links of 64 parcels that lose nothing;
+    /// no ticks.
     pub fn new(keep: Keep) -> Shape
         ensures { result.keep ≡ keep }
     {

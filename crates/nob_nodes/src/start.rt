@@ -79,8 +79,8 @@ impl Start {
         }
     }
 
-    /// Doesn't run the node, for want of a thread: the ends of its links go, so no peer waits for it,
-    /// and its player is skipped and leaves the meeting.
+    /// Doesn't run the node, for want of a thread: the ends of its links go, so no peer waits for
+    /// it, and its player is skipped and leaves the meeting.
     pub fn skip<O: Object, R: Wait, A: Player<O> + Drop>(
         self,
         rt: &R,

@@ -4,11 +4,11 @@ use crate::rows::Said;
 use crate::thing::Thing;
 use nob_node::{Hold, Node, Returned};
 use nob_pickle::Value;
-use nob_two_nodes::give_back_all;
+use nob_two_nodes::{give_back, give_back_all};
 use std::sync::Wait;
 
-// Calls a method of an object, where there is one to call and an argument for it: what that says. The
-// references in the reply are given back.
+// Calls a method of an object, where there is one to call and an argument for it: what that says.
+// The references in the reply are given back.
 pub(crate) fn told<R: Wait>(
     rt: &R,
     node: &mut Node<Thing>,
@@ -34,5 +34,12 @@ fn said_of(returned: &Returned) -> Said {
     match returned {
         Returned::Replied { status, value, .. } => Said::of(*status, value),
         Returned::Ended => Said::Nothing,
+    }
+}
+
+// Gives a hold back, if there is one.
+pub(crate) fn end<R: Wait>(rt: &R, node: &mut Node<Thing>, hold: Option<Hold>) {
+    if let Some(hold) = hold {
+        let _ = give_back(rt, node, hold);
     }
 }

@@ -1,8 +1,8 @@
 //! Seventeen nodes: one has sixteen objects, and each of the others calls all of them.
 
-use crate::asking::told;
+use crate::asking::{end, told};
 use crate::gate::Counts;
-use crate::rows::{Rows, Said};
+use crate::rows::{Row, Said, say};
 use crate::tally::{counted, remains_of, say_end};
 use crate::thing::Thing;
 use nob_ids::SpaceId;
@@ -55,7 +55,9 @@ impl Member {
         }
         for turn in 0..CALLS {
             if let Some(hold) = holds.get((first + turn) % usize::from(COUNTERS)) {
-                self.count(told(rt, node, hold, 0, Some(Value::Unit)));
+                if let Said::Number(0, _) = told(rt, node, hold, 0, Some(Value::Unit)) {
+                    self.answered = self.answered.saturating_add(1);
+                }
             }
         }
         while let Some(hold) = holds.pop() {
@@ -63,13 +65,6 @@ impl Member {
         }
         holds.destroy_empty();
         let _ = company.meet(rt);
-    }
-
-    // Counts a call that was answered.
-    fn count(&mut self, said: Said) {
-        if let Said::Number(0, _) = said {
-            self.answered = self.answered.saturating_add(1);
-        }
     }
 }
 
@@ -83,15 +78,8 @@ impl Player<Thing> for Member {
     }
 }
 
-// Gives a hold back, if there is one.
-fn end<R: Wait>(rt: &R, node: &mut Node<Thing>, hold: Option<Hold>) {
-    if let Some(hold) = hold {
-        let _ = give_back(rt, node, hold);
-    }
-}
-
 /// Plays the scene: what it says. `None` where memory is wanted, or a thread can't be made.
-pub(crate) fn play<R: Threads + Wait + Sync>(rt: &R, alloc: Global) -> Option<Rows> {
+pub(crate) fn play<R: Threads + Wait + Sync>(rt: &R, alloc: Global) -> Option<Vec<Row>> {
     let owner = SpaceId::new(1)?;
     let mut shape = Shape::new(Keep::All);
     shape.workers = 4;
@@ -111,17 +99,21 @@ pub(crate) fn play<R: Threads + Wait + Sync>(rt: &R, alloc: Global) -> Option<Ro
     let gate = Counts::new();
     let played = run_nodes(rt, nodes, &gate, members, &mut Nobody)?;
     let (remains, members) = remains_of(alloc, played, owner.place())?;
-    let mut rows = Rows::new(alloc);
+    let mut rows = Vec::new(alloc);
     let mut answered: u64 = 0;
     for member in members.iter() {
         answered = answered.saturating_add(member.answered);
     }
-    rows.say(
-        "calls of sixteen objects that are answered",
-        Said::Count(answered),
-    );
     let count = counted(remains.objects.as_slice());
-    rows.say("calls that the counters counted", Said::Count(count));
+    for (name, said) in [
+        (
+            "calls of sixteen objects that are answered",
+            Said::Count(answered),
+        ),
+        ("calls that the counters counted", Said::Count(count)),
+    ] {
+        say(&mut rows, name, said);
+    }
     say_end(alloc, remains, &gate, &mut rows)?;
     Some(rows)
 }

@@ -11,7 +11,7 @@ mod tally;
 mod thing;
 mod values;
 
-use crate::rows::{Row, Rows, Said};
+use crate::rows::{Row, Said};
 use std::alloc::Global;
 use std::io;
 use std::process::ExitCode;
@@ -32,11 +32,11 @@ fn run<R: Threads + Wait + Sync + Print>(rt: &R, alloc: Global) -> io::Result<()
 }
 
 // Prints what a scene says.
-fn print_all<R: Print>(rt: &R, rows: Option<Rows>) -> io::Result<()> {
+fn print_all<R: Print>(rt: &R, rows: Option<Vec<Row>>) -> io::Result<()> {
     let Some(rows) = rows else {
         return println!(rt; "the scene failed");
     };
-    for row in rows.as_slice() {
+    for row in rows.iter() {
         print(rt, row)?;
     }
     Ok(())

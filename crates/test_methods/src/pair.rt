@@ -1,8 +1,8 @@
 //! Two nodes: one has objects whose methods do what methods can do, and the other calls them.
 
-use crate::asking::told;
+use crate::asking::{end, told};
 use crate::gate::Counts;
-use crate::rows::{Rows, Said};
+use crate::rows::{Row, Said, say};
 use crate::tally::{remains_of, say_end, say_made_again};
 use crate::thing::{Holder, Odd, Relay, Thing};
 use crate::values::{bytes_of, named};
@@ -10,7 +10,7 @@ use nob_ids::{SpaceId, WireRep};
 use nob_node::{Hold, Keep, Node};
 use nob_nodes::{Company, Nobody, Nodes, Player, Shape, run_nodes};
 use nob_pickle::Value;
-use nob_two_nodes::{give_back, look_up, offer};
+use nob_two_nodes::{look_up, offer};
 use std::alloc::Global;
 use std::sync::Wait;
 use std::thread::Threads;
@@ -43,7 +43,7 @@ struct Actor {
     // The spaces of both nodes.
     caller: SpaceId,
     owner: SpaceId,
-    rows: Rows,
+    rows: Vec<Row>,
 }
 
 impl Actor {
@@ -88,7 +88,7 @@ impl Actor {
                 Some(passed) => named(self.alloc, NAME, passed.rep()),
                 None => None,
             };
-            self.rows.say(row, told(rt, node, &relay, 0, value));
+            say(&mut self.rows, row, told(rt, node, &relay, 0, value));
         }
         for (row, method) in [
             ("get", 1),
@@ -97,7 +97,7 @@ impl Actor {
             ("another method", 3),
         ] {
             let value = bytes_of(self.alloc, NAME);
-            self.rows.say(row, told(rt, node, &relay, method, value));
+            say(&mut self.rows, row, told(rt, node, &relay, method, value));
         }
         end(rt, node, relay);
         end(rt, node, counter);
@@ -114,7 +114,7 @@ impl Actor {
             ("no such method", 4),
         ] {
             let said = told(rt, node, &odd, method, Some(Value::Unit));
-            self.rows.say(row, said);
+            say(&mut self.rows, row, said);
         }
         end(rt, node, odd);
     }
@@ -129,13 +129,13 @@ impl Actor {
                 ("keeps a reference", 0),
             ] {
                 let value = Some(Value::Ref(own.rep()));
-                self.rows.say(row, told(rt, node, &holder, method, value));
+                say(&mut self.rows, row, told(rt, node, &holder, method, value));
             }
             end(rt, node, Some(own));
             self.ask_for_kept(rt, node, &holder);
             node.wait_withdrawn(rt, index);
-            self.rows
-                .say("then it is withdrawn", Said::Is(node.live(rt) == 0));
+            let is_gone = node.live(rt) == 0;
+            say(&mut self.rows, "then it is withdrawn", Said::Is(is_gone));
         }
         end(rt, node, holder);
     }
@@ -143,11 +143,11 @@ impl Actor {
     // Has the other's object call what it keeps, to which nobody else has a hold, and give it back.
     fn ask_for_kept<R: Wait>(&mut self, rt: &R, node: &mut Node<Thing>, holder: &Option<Hold>) {
         let called = told(rt, node, holder, 1, Some(Value::Unit));
-        self.rows.say("calls what it keeps", called);
-        self.rows
-            .say("what is kept is live", Said::Is(node.live(rt) == 1));
+        let is_live = node.live(rt) == 1;
         let given = told(rt, node, holder, 2, Some(Value::Unit));
-        self.rows.say("gives it back", given);
+        say(&mut self.rows, "calls what it keeps", called);
+        say(&mut self.rows, "what is kept is live", Said::Is(is_live));
+        say(&mut self.rows, "gives it back", given);
     }
 }
 
@@ -176,15 +176,8 @@ fn withdrawn_at<R: Wait>(rt: &R, node: &mut Node<Thing>) -> Option<WireRep> {
     Some(rep)
 }
 
-// Gives a hold back, if there is one.
-fn end<R: Wait>(rt: &R, node: &mut Node<Thing>, hold: Option<Hold>) {
-    if let Some(hold) = hold {
-        let _ = give_back(rt, node, hold);
-    }
-}
-
 /// Plays the scene: what it says. `None` where memory is wanted, or a thread can't be made.
-pub(crate) fn play<R: Threads + Wait + Sync>(rt: &R, alloc: Global) -> Option<Rows> {
+pub(crate) fn play<R: Threads + Wait + Sync>(rt: &R, alloc: Global) -> Option<Vec<Row>> {
     let nodes = Nodes::linked(alloc, Shape::new(Keep::All), 2)?;
     let mut actors = Vec::with_capacity(alloc, 2).ok()?;
     for part in [Part::Calls, Part::Owns] {
@@ -193,7 +186,7 @@ pub(crate) fn play<R: Threads + Wait + Sync>(rt: &R, alloc: Global) -> Option<Ro
             part,
             caller: SpaceId::new(1)?,
             owner: SpaceId::new(2)?,
-            rows: Rows::new(alloc),
+            rows: Vec::new(alloc),
         };
         actors.push(actor).ok()?;
     }

@@ -1,7 +1,6 @@
 //! What is said.
 
 use nob_pickle::Value;
-use std::alloc::Global;
 
 /// What is said of a row.
 #[derive(Clone, Copy, Debug, PartialEq, Eq)]
@@ -41,27 +40,7 @@ pub(crate) struct Row {
     pub(crate) said: Said,
 }
 
-/// What a scene says.
-#[derive(Drop)]
-pub(crate) struct Rows {
-    rows: Vec<Row>,
-}
-
-impl Rows {
-    // Nothing yet.
-    pub(crate) fn new(alloc: Global) -> Rows {
-        Rows {
-            rows: Vec::new(alloc),
-        }
-    }
-
-    // A row more. Where there is no memory for it, it is missing.
-    pub(crate) fn say(&mut self, name: &'static str, said: Said) {
-        let _ = self.rows.push(Row { name, said });
-    }
-
-    // The rows, the first first.
-    pub(crate) fn as_slice(&self) -> &[Row] {
-        self.rows.as_slice()
-    }
+// A row more. Where there is no memory for it, it is missing.
+pub(crate) fn say(rows: &mut Vec<Row>, name: &'static str, said: Said) {
+    let _ = rows.push(Row { name, said });
 }

@@ -1,7 +1,7 @@
 //! What is found when nodes have ended.
 
 use crate::gate::Counts;
-use crate::rows::{Rows, Said};
+use crate::rows::{Row, Said, say};
 use crate::thing::Thing;
 use nob_chain::Chain;
 use nob_chain_check::check;
@@ -23,8 +23,8 @@ pub(crate) struct Remains {
     pub(crate) objects: Vec<Left<Thing>>,
 }
 
-// What nodes and their players left, of which one has objects for the others. `None` where one failed,
-// or memory is wanted.
+// What nodes and their players left, of which one has objects for the others. `None` where one
+// failed, or memory is wanted.
 pub(crate) fn remains_of<A: Drop>(
     alloc: Global,
     played: Vec<Played<Thing, A>>,
@@ -53,24 +53,28 @@ pub(crate) fn say_end(
     alloc: Global,
     remains: Remains,
     gate: &Counts,
-    rows: &mut Rows,
+    rows: &mut Vec<Row>,
 ) -> Option<()> {
     say_ended(alloc, remains.chains.get(remains.owner)?, rows)?;
     let left = u64::try_from(remains.objects.len()).ok()?;
-    rows.say("objects that are back", Said::Count(left));
     let is_even = gate.are_even();
-    rows.say("each job that entered the gate left it", Said::Is(is_even));
     let is_accepted = check(alloc, remains.chains).is_ok();
-    rows.say(
-        "the chains of all spaces are accepted",
-        Said::Is(is_accepted),
-    );
+    for (name, said) in [
+        ("objects that are back", Said::Count(left)),
+        ("each job that entered the gate left it", Said::Is(is_even)),
+        (
+            "the chains of all spaces are accepted",
+            Said::Is(is_accepted),
+        ),
+    ] {
+        say(rows, name, said);
+    }
     Some(())
 }
 
 // Says how many jobs a space ended, and whether each number from 1 on is one of them and each once.
 // Only memory fails it.
-fn say_ended(alloc: Global, chain: &Chain, rows: &mut Rows) -> Option<()> {
+fn say_ended(alloc: Global, chain: &Chain, rows: &mut Vec<Row>) -> Option<()> {
     let mut count: u64 = 0;
     for segment in chain.parts().segments.as_slice() {
         for entry in segment.entries.as_slice() {
@@ -79,9 +83,9 @@ fn say_ended(alloc: Global, chain: &Chain, rows: &mut Rows) -> Option<()> {
             }
         }
     }
-    rows.say("jobs that were ended", Said::Count(count));
+    say(rows, "jobs that were ended", Said::Count(count));
     let is_each_once = each_once(alloc, chain, count)?;
-    rows.say("each job's number once", Said::Is(is_each_once));
+    say(rows, "each job's number once", Said::Is(is_each_once));
     Some(())
 }
 
@@ -100,7 +104,7 @@ fn each_once(alloc: Global, chain: &Chain, most: u64) -> Option<bool> {
     for segment in chain.parts().segments.as_slice() {
         for entry in segment.entries.as_slice() {
             if let Some(number) = ended_by(entry)
-                && !mark(&mut marks, number)
+                && mark(&mut marks, number).is_none()
             {
                 return Some(false);
             }
@@ -109,25 +113,19 @@ fn each_once(alloc: Global, chain: &Chain, most: u64) -> Option<bool> {
     Some(marks.iter().all(|mark| *mark))
 }
 
-// Marks a number, if it may be and isn't marked yet.
-fn mark(marks: &mut Vec<bool>, number: u64) -> bool {
-    let Some(before) = number.checked_sub(1) else {
-        return false;
-    };
-    let Ok(place) = usize::try_from(before) else {
-        return false;
-    };
-    match marks.get_mut(place) {
-        Some(mark) if !*mark => {
-            *mark = true;
-            true
-        }
-        _ => false,
+// Marks a number. `None` where it may not be, or is marked already.
+fn mark(marks: &mut Vec<bool>, number: u64) -> Option<()> {
+    let place = usize::try_from(number.checked_sub(1)?).ok()?;
+    let mark = marks.get_mut(place)?;
+    if *mark {
+        return None;
     }
+    *mark = true;
+    Some(())
 }
 
 // Says how many ends of jobs were refused by a space, and then made again as a fault with unit.
-pub(crate) fn say_made_again(chain: &Chain, rows: &mut Rows) {
+pub(crate) fn say_made_again(chain: &Chain, rows: &mut Vec<Row>) {
     for (name, refusal) in [
         (
             "refused by S3, and then a fault with unit",
@@ -139,12 +137,12 @@ pub(crate) fn say_made_again(chain: &Chain, rows: &mut Rows) {
         ),
         ("refused by S7, and then a fault with unit", Refusal::TooBig),
     ] {
-        rows.say(name, Said::Count(made_again(chain, refusal)));
+        say(rows, name, Said::Count(made_again(chain, refusal)));
     }
 }
 
-// How many ends of jobs were refused so, with a fault with unit as the next end of the same job. One
-// job at a time has such an end.
+// How many ends of jobs were refused so, with a fault with unit as the next end of the same job.
+// One job at a time has such an end.
 fn made_again(chain: &Chain, refusal: Refusal) -> u64 {
     let mut count: u64 = 0;
     let mut refused: Option<JobNo> = None;
@@ -157,7 +155,7 @@ fn made_again(chain: &Chain, refusal: Refusal) -> u64 {
                 refused = Some(*job);
             } else if refused == Some(*job) {
                 refused = None;
-                if entry.result.is_ok() && is_unit_fault(outcome) {
+                if let (Outcome::Fault(Value::Unit), Ok(_)) = (outcome, &entry.result) {
                     count = count.saturating_add(1);
                 }
             }
@@ -171,14 +169,6 @@ fn is_refused(entry: &Stamped, refusal: Refusal) -> bool {
     match &entry.result {
         Err(other) => *other == refusal,
         Ok(_) => false,
-    }
-}
-
-// Whether a job ended so by a fault with unit.
-fn is_unit_fault(outcome: &Outcome) -> bool {
-    match outcome {
-        Outcome::Fault(Value::Unit) => true,
-        _ => false,
     }
 }
 

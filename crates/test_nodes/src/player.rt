@@ -1,5 +1,5 @@
-//! The applications of the scenes of two or three nodes that a gate holds up, or whose links are let
-//! go.
+//! The applications of the scenes of two or three nodes that a gate holds up, or whose links are
+//! let go.
 
 use crate::calling::{Refusals, Said, found, give_back, offer, said_by};
 use crate::shared::Shared;
