@@ -131,8 +131,9 @@ impl<'x, B: Object> Node<'x, B> {
     // Gives up an object that there was no room for. Want of memory is waited out: else it would stay
     // live for good.
     fn take_back<R: Wait>(&mut self, rt: &R, rep: WireRep) {
+        let index = rep.index;
         let _ = self.ask_surely::<R, DoneAnswer>(rt, &Event::Release(rep));
-        let _ = self.ask_surely::<R, WithdrawAnswer>(rt, &Event::Withdraw(rep.index));
+        let _ = self.ask_surely::<R, WithdrawAnswer>(rt, &Event::Withdraw(index));
     }
 
     /// One hold more on the same reference. J1, J2 (S2, S3, S4, S13).

@@ -4,4 +4,4 @@ use Rattle.nob_node.proofs.node.Node.ask_surely.Given as goal
 abbrev pub invariant-loop : goal.invariant-loop
 invariant-loop g l =
     ((goal.iterator-loop g).can_next l.iterator' × (goal.iterator-loop g).is_finite l.iterator')
-    × (l.self-inside.seat ≡ l.fn.self)
+    × (l.self ≡ l.fn.self)
