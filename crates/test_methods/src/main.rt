@@ -14,15 +14,11 @@ mod values;
 use crate::rows::{Row, Said};
 use std::alloc::Global;
 use std::io;
-use std::process::ExitCode;
 use std::sync::Wait;
 use std::thread::Threads;
 
-fn main(rt: HostRuntime) -> ExitCode {
-    match run(&rt, rt.alloc()) {
-        Ok(()) => ExitCode::from(0),
-        Err(_) => ExitCode::from(1),
-    }
+fn main(rt: HostRuntime) -> io::Result<()> {
+    run(&rt, rt.alloc())
 }
 
 // Plays both scenes, and prints what they say.

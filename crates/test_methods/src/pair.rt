@@ -15,6 +15,7 @@ use std::alloc::Global;
 use std::sync::Wait;
 use std::thread::Threads;
 
+/// The names of the objects.
 const COUNTER: &[u8] = b"counter";
 
 const RELAY: &[u8] = b"relay";
