@@ -21,19 +21,14 @@ pub(crate) fn told<R: Wait>(
     };
     match node.call(rt, hold, method, value) {
         Ok(returned) => {
-            let said = said_of(&returned);
+            let said = match &returned {
+                Returned::Replied { status, value, .. } => Said::of(*status, value),
+                Returned::Ended => Said::Nothing,
+            };
             give_back_all(rt, node, returned);
             said
         }
         Err((_error, _value)) => Said::Nothing,
-    }
-}
-
-// What was returned.
-fn said_of(returned: &Returned) -> Said {
-    match returned {
-        Returned::Replied { status, value, .. } => Said::of(*status, value),
-        Returned::Ended => Said::Nothing,
     }
 }
 
