@@ -4,9 +4,9 @@ use Rattle.nob_node_site.specs.declared.config.Config.{Config}
 use Rattle.nob_nodes.specs.declared.shape.Shape.{Shape}
 
 -- a node of a space runs as a shape says, one of so many
-pub record IsShaped (shape : Shape) (space count : ℕ) (config : Config) : Type 0 where
-  pub space : config.space ≡ space
-  pub count : config.n ≡ count
+pub record IsShaped (shape : Shape) (number spaces : ℕ) (config : Config) : Type 0 where
+  pub space : config.space ≡ number
+  pub count : config.n ≡ spaces
   pub limits : config.limits ≡ shape.limits
   pub workers : config.workers ≡ shape.workers
   pub pause : config.pause ≡ shape.pause

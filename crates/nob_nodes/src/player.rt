@@ -37,9 +37,9 @@ pub struct Played<O: Object, A: Drop> {
     pub player: A,
     /// What its node leaves, or why it failed and the objects that were left.
     pub left: Result<Report<O>, (NodeError, Vec<Left<O>>)>,
-    pub ghost recorded: { IfOk left (λ report. IsRecorded report.«record») },
-    pub ghost own: { IfOk left (λ report. IsOwn config report.«record») },
-    pub ghost kept: { IfOk left (λ report. is_chain report.«record» ≡ keeps_all config.keep) },
+    pub ghost recorded: { ∥ IfOk left (λ report. IsRecorded report.«record») ∥₁ },
+    pub ghost own: { ∥ IfOk left (λ report. IsOwn config report.«record») ∥₁ },
+    pub ghost kept: { ∥ IfOk left (λ report. is_chain report.«record» ≡ keeps_all config.keep) ∥₁ },
 }
 
 /// A player at its node.

@@ -65,8 +65,8 @@ impl Start {
         let left = run(rt, alloc, config, ends, gate, &mut playing);
         let Playing {
             mut player,
+            company,
             has_come,
-            ..
         } = playing;
         if !has_come {
             player.skip(rt);
