@@ -4,7 +4,6 @@
 
 mod caller;
 mod floor;
-mod meeting;
 mod owner;
 mod player;
 mod running;
@@ -14,18 +13,20 @@ mod thing;
 
 use crate::floor::run_floor;
 use crate::running::run_all;
+use crate::saying::say_waits;
 use crate::task::{Kind, Task, read_task};
 use std::alloc::Global;
 use std::io;
 use std::process::ExitCode;
 use std::sync::Wait;
 use std::thread::Threads;
+use std::time::Clock;
 
 fn main(rt: HostRuntime) -> ExitCode {
     let done = match read_task(&rt) {
         Ok(Some(task)) => run(&rt, rt.alloc(), task),
         Ok(None) => rt.println(
-            "bench_calls floor|idle|null|apart|fresh|life|handoff CALLERS CALLS LOSS [all|nothing [WINDOW]]",
+            "bench_calls floor|idle|null|timed|apart|fresh|life|handoff CALLERS CALLS LOSS [all|nothing [WINDOW]]",
         ),
         Err(error) => Err(error),
     };
@@ -36,16 +37,26 @@ fn main(rt: HostRuntime) -> ExitCode {
 }
 
 // Runs a task, and says how many calls were answered.
-fn run<R: Threads + Wait + Sync + Print>(rt: &R, alloc: Global, task: Task) -> io::Result<()> {
+fn run<R: Threads + Wait + Sync + Print + Clock>(
+    rt: &R,
+    alloc: Global,
+    task: Task,
+) -> io::Result<()> {
     if task.kind == Kind::Floor {
         return say_answered(rt, run_floor(rt, alloc, task.callers, task.calls));
     }
-    let outcome = run_all(rt, alloc, task);
-    if let (Some(outcome), Some(_)) = (outcome, task.window) {
+    let Some(outcome) = run_all(rt, alloc, task) else {
+        return say_answered(rt, None);
+    };
+    if task.window.is_some() {
         let frames = outcome.frames;
         println!(rt; "{frames} frames")?;
     }
-    say_answered(rt, outcome.map(|outcome| outcome.answered))
+    say_answered(rt, Some(outcome.answered))?;
+    if task.kind == Kind::Timed {
+        return say_waits(rt, outcome.waits);
+    }
+    Ok(())
 }
 
 // Says how many calls were answered.

@@ -1,14 +1,15 @@
-//! The applications.
+//! What an application does.
 
 use crate::caller::Called;
-use crate::meeting::Meeting;
 use crate::owner::{NAME, give_back, name_for, offer, offer_each};
 use crate::task::{Kind, Task};
 use crate::thing::Thing;
 use nob_ids::SpaceId;
-use nob_node::{App, Node};
+use nob_node::Node;
+use nob_nodes::Company;
 use std::alloc::Global;
 use std::sync::Wait;
+use std::time::Clock;
 
 /// What an application is there for.
 #[derive(Clone, Copy, Debug)]
@@ -21,103 +22,80 @@ pub(crate) enum Part {
 
 /// An application.
 #[derive(Drop)]
-pub(crate) struct Player<'m> {
+pub(crate) struct Player<'c, C: Clock> {
     alloc: Global,
-    meeting: &'m Meeting,
-    // The number of its space.
-    space: u16,
-    // How many applications there are.
-    players: u16,
-    // How often this one has come to the meeting.
-    came: u64,
+    clock: &'c C,
     part: Part,
     task: Task,
     server: SpaceId,
     relay: SpaceId,
+    // How many of its calls were answered.
     pub(crate) answered: u64,
+    // For how many nanoseconds it waited for each call that it timed.
+    pub(crate) waits: Vec<u64>,
 }
 
-/// How often applications meet.
-pub(crate) const MEETINGS: u64 = 2;
-
-impl<'m> Player<'m> {
+impl<'c, C: Clock> Player<'c, C> {
+    // One that is there for this. Only memory fails it.
     pub(crate) fn new(
         alloc: Global,
-        meeting: &'m Meeting,
-        space: u16,
-        players: u16,
+        clock: &'c C,
         part: Part,
         task: Task,
         server: SpaceId,
         relay: SpaceId,
-    ) -> Player<'m> {
-        Player {
+    ) -> Option<Player<'c, C>> {
+        Some(Player {
             alloc,
-            meeting,
-            space,
-            players,
-            came: 0,
+            clock,
             part,
             task,
             server,
             relay,
             answered: 0,
-        }
-    }
-
-    // Comes to the meeting and waits for the others.
-    fn meet<R: Wait>(&mut self, rt: &R) {
-        self.came = self.came.saturating_add(1);
-        self.meeting.come(rt, 1);
-        let players = self.players as u64;
-        self.meeting.wait(rt, players.saturating_mul(self.came));
-    }
-
-    // Comes as often as it hasn't come yet, and waits for nobody.
-    pub(crate) fn leave<R: Wait>(&mut self, rt: &R) {
-        self.meeting.come(rt, MEETINGS.saturating_sub(self.came));
-        self.came = MEETINGS;
+            waits: Vec::with_capacity(alloc, task.timed()).ok()?,
+        })
     }
 
     // Has an object for the others until they are done.
-    fn offer<R: Wait>(&mut self, rt: &R, node: &mut Node<Thing>, thing: Thing) {
+    fn offer<R: Wait>(&mut self, rt: &R, node: &mut Node<Thing>, company: &Company, thing: Thing) {
         let hold = offer(rt, node, thing, NAME);
         if self.task.kind == Kind::Apart {
-            offer_each(rt, node, thing, self.players);
+            offer_each(rt, node, thing, company.spaces());
         }
-        self.meet(rt);
-        self.meet(rt);
+        let _ = company.meet(rt);
+        let _ = company.meet(rt);
         if let Some(hold) = hold {
             give_back(rt, node, hold);
         }
     }
 
     // Calls what the others have.
-    fn call<R: Wait>(&mut self, rt: &R, node: &mut Node<Thing>) {
-        self.meet(rt);
-        let own = name_for(self.space);
+    fn call<R: Wait>(&mut self, rt: &R, node: &mut Node<Thing>, company: &Company) {
+        let _ = company.meet(rt);
+        let own = name_for(company.space().get());
         let name = if self.task.kind == Kind::Apart {
             &own
         } else {
             NAME
         };
         if let Some(called) = Called::find(rt, node, self.server, name, self.relay) {
-            self.answered = called.call_all(rt, self.alloc, node, self.task.kind, self.task.calls);
+            self.answered = if self.task.kind == Kind::Timed {
+                called.time_all(rt, self.clock, node, self.task.calls, &mut self.waits)
+            } else {
+                called.call_all(rt, self.alloc, node, self.task.kind, self.task.calls)
+            };
             called.give_back(rt, node);
         }
-        self.meet(rt);
+        let _ = company.meet(rt);
     }
 }
 
-impl<'m> App<Thing> for Player<'m> {
-    fn run<R: Wait>(&mut self, rt: &R, node: &mut Node<Thing>) {
+impl<'c, C: Clock> nob_nodes::Player<Thing> for Player<'c, C> {
+    fn run<R: Wait>(&mut self, rt: &R, node: &mut Node<Thing>, company: &Company) {
         match self.part {
-            Part::Offers(thing) => self.offer(rt, node, thing),
-            Part::Calls => self.call(rt, node),
+            Part::Offers(thing) => self.offer(rt, node, company, thing),
+            Part::Calls => self.call(rt, node, company),
         }
-    }
-
-    fn skip<R: Wait>(&mut self, rt: &R) {
-        self.leave(rt);
     }
 }

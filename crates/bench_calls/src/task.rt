@@ -13,6 +13,8 @@ pub(crate) enum Kind {
     Idle,
     /// Nothing is passed.
     Null,
+    /// As `Null`, and it is said for how long calls were waited for.
+    Timed,
     /// As `Null`, and each caller calls an object of its own.
     Apart,
     /// A reference to a new object is passed, and given back by the one who called.
@@ -37,6 +39,14 @@ pub(crate) struct Task {
 }
 
 impl Task {
+    // How many calls each caller times.
+    pub(crate) fn timed(self) -> usize {
+        if self.kind != Kind::Timed {
+            return 0;
+        }
+        usize::try_from(self.calls).unwrap_or(0)
+    }
+
     // The limits of all sessions. `None` where a window is named that is out of range.
     pub(crate) fn limits(self) -> Option<Limits> {
         let limits = Limits::default();
@@ -74,7 +84,7 @@ pub(crate) fn read_task(rt: &HostRuntime) -> io::Result<Option<Task>> {
     };
     Ok(Some(Task {
         kind: kind_of(kind.as_str()),
-        callers: callers.as_str().parse::<u16>().unwrap_or(1).clamp(1, 8),
+        callers: callers.as_str().parse::<u16>().unwrap_or(1).clamp(1, 16),
         calls: calls.as_str().parse::<u64>().unwrap_or(1),
         loss: loss.as_str().parse::<u64>().unwrap_or(0),
         keep,
@@ -94,6 +104,7 @@ fn keep_of(word: &str) -> Keep {
 fn kind_of(word: &str) -> Kind {
     match word {
         "floor" => Kind::Floor,
+        "timed" => Kind::Timed,
         "idle" => Kind::Idle,
         "fresh" => Kind::Fresh,
         "life" => Kind::Life,

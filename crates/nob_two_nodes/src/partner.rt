@@ -3,31 +3,29 @@
 ghost use Rattle.std.specs.Prelude.{◌≡◌, ◌-◌};
 
 use nob_ids::SpaceId;
-use std::sync::{Barrier, Wait};
+use nob_nodes::Company;
+use std::sync::Wait;
 
 /// The other player, as one of the two sees it.
 #[derive(Drop)]
-pub struct Partner<'b> {
-    barrier: &'b Barrier,
+pub struct Partner<'m> {
+    company: Company<'m>,
     // The space of its node.
     space: SpaceId,
     // How many meetings with it are left.
     left: u32,
-    // Whether the last meeting is over, at which neither has anything left to do.
-    is_over: bool,
 }
 
-impl<'b> Partner<'b> {
+impl<'m> Partner<'m> {
     // The player at the node of a space, with so many meetings.
-    pub(crate) fn new(barrier: &'b Barrier, space: SpaceId, meetings: u32) -> Partner<'b>
+    pub(crate) fn new(company: Company<'m>, space: SpaceId, meetings: u32) -> Partner<'m>
         ensures space { result.space ≡ space }
         ensures left { result.left ≡ meetings }
     {
         Partner {
-            barrier,
+            company,
             space,
             left: meetings,
-            is_over: false,
         }
     }
 
@@ -53,20 +51,7 @@ impl<'b> Partner<'b> {
     {
         if self.left > 0 {
             self.left -= 1;
-            self.barrier.wait(rt);
+            let _ = self.company.meet(rt);
         }
-    }
-
-    // Comes to each meeting that is left, and to the last. Once that is over nothing is done.
-    pub(crate) fn leave<R: Wait>(&mut self, rt: &R) {
-        if self.is_over {
-            return;
-        }
-        for _ in 0..self.left {
-            self.barrier.wait(rt);
-        }
-        self.left = 0;
-        self.is_over = true;
-        self.barrier.wait(rt);
     }
 }

@@ -2,12 +2,13 @@
 
 ghost use denote.Param.Send.{IsSend, IsSync};
 
-use crate::player::{Played, Player};
-use crate::sides::{both_sides, run_side};
+use crate::player::{Pairing, Played, Player};
 use nob_dispatch_objects::Object;
-use nob_node::Keep;
+use nob_ids::SpaceId;
+use nob_node::{Keep, OpenGate};
+use nob_nodes::{Meeting, Nodes, Shape};
 use std::alloc::Global;
-use std::sync::{Barrier, Wait};
+use std::sync::Wait;
 use std::thread::{self, Threads};
 
 /// Runs two nodes, those of the spaces 1 and 2, each in a thread of its own, with a link each way,
@@ -43,9 +44,14 @@ pub fn run_two_keeping<
     first: A,
     second: B,
 ) -> Option<(Played<O, A>, Played<O, B>)> {
-    let (ours, theirs) = both_sides(alloc, keep)?;
-    let together = Barrier::new(2);
-    let barrier = &together;
+    let nodes = Nodes::linked(alloc, Shape::new(keep), 2)?;
+    let mut starts = nodes.into_starts();
+    let theirs = starts.pop()?;
+    let ours = starts.pop()?;
+    let first = pairing(first, 2, meetings)?;
+    let second = pairing(second, 1, meetings)?;
+    let together = Meeting::new(2);
+    let meeting = &together;
     let handle = rt;
     thread::scope(
         thread::scope_env(),
@@ -53,19 +59,38 @@ pub fn run_two_keeping<
         |scope|
             requires { IsSend O.row × IsSend A.row × IsSync R.row }
         {
-            let Ok(child) = scope.spawn(move || run_side(rt, ours, barrier, meetings, first)) else {
+            let Ok(child) = scope.spawn(move || ours.play(rt, meeting, &OpenGate, first)) else {
                 return None;
             };
-            let there = run_side(rt, theirs, barrier, meetings, second);
+            let there = theirs.play(rt, meeting, &OpenGate, second);
             both(child.join(rt), there)
         },
     )
 }
 
-// Both players.
+// A player with so many meetings with that of a space.
+fn pairing<A: Drop>(player: A, other: u16, meetings: u32) -> Option<Pairing<A>> {
+    Some(Pairing {
+        player,
+        other: SpaceId::new(other)?,
+        meetings,
+    })
+}
+
+// Both players, where neither node failed.
 fn both<O: Object, A: Drop, B: Drop>(
-    first: Option<Played<O, A>>,
-    second: Option<Played<O, B>>,
+    first: nob_nodes::Played<O, Pairing<A>>,
+    second: nob_nodes::Played<O, Pairing<B>>,
 ) -> Option<(Played<O, A>, Played<O, B>)> {
-    Some((first?, second?))
+    Some((played_of(first)?, played_of(second)?))
+}
+
+// A player whose node has ended, where that didn't fail.
+fn played_of<O: Object, A: Drop>(played: nob_nodes::Played<O, Pairing<A>>) -> Option<Played<O, A>> {
+    let nob_nodes::Played { player, left, .. } = played;
+    let Pairing { player, .. } = player;
+    match left {
+        Ok(report) => Some(Played { player, report }),
+        Err(_) => None,
+    }
 }

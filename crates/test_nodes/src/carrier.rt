@@ -2,8 +2,9 @@
 
 use crate::shared::Shared;
 use nob_link::{PutEnd, TakeEnd};
+use nob_nodes::{Beside, Meeting};
 use std::sync::Wait;
-use std::thread;
+use std::{mem, thread};
 
 /// The way of parcels from one node to another, over two links.
 #[derive(Drop)]
@@ -26,24 +27,36 @@ impl Way {
     }
 }
 
-/// Who has ends of links beside the nodes.
+/// The ends of links that nobody at a node has.
 #[derive(Drop)]
-pub(crate) enum Carrier {
-    /// Nobody.
-    Nobody,
-    /// Who takes one parcel, and lets the ends go.
-    TakesOne(PutEnd, TakeEnd),
-    /// Who carries parcels there and back until a method is held up, and then lets the ends go.
-    UntilHeld(Way, Way),
+pub(crate) enum Loose {
+    /// None.
+    Nothing,
+    /// Those over which one parcel is taken.
+    One(PutEnd, TakeEnd),
+    /// Those over which parcels are carried there and back until a method is held up.
+    Both(Way, Way),
 }
 
-impl Carrier {
-    /// Carries what it has to, and lets the ends go.
-    pub(crate) fn play<R: Wait>(self, rt: &R, shared: &Shared) {
-        match self {
-            Carrier::Nobody => {}
-            Carrier::TakesOne(_put, take) => take_one(rt, take),
-            Carrier::UntilHeld(there, back) => carry_until_held(rt, shared, there, back),
+/// Who carries parcels beside the nodes, and then lets the ends of the links go.
+#[derive(Drop)]
+pub(crate) struct Carrier<'m> {
+    shared: &'m Shared,
+    loose: Loose,
+}
+
+impl<'m> Carrier<'m> {
+    pub(crate) fn new(shared: &'m Shared, loose: Loose) -> Carrier<'m> {
+        Carrier { shared, loose }
+    }
+}
+
+impl<'m> Beside for Carrier<'m> {
+    fn run<R: Wait>(&mut self, rt: &R, _meeting: &Meeting) {
+        match mem::replace(&mut self.loose, Loose::Nothing) {
+            Loose::Nothing => {}
+            Loose::One(_put, take) => take_one(rt, take),
+            Loose::Both(there, back) => carry_until_held(rt, self.shared, there, back),
         }
     }
 }

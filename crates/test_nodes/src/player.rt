@@ -1,11 +1,12 @@
-//! The applications of the scenes of two or three nodes that a gate holds up, or whose links are let
-//! go.
+//! The applications of the scenes of two or three nodes that a gate holds up, or whose links are
+//! let go.
 
 use crate::calling::{Refusals, Said, found, give_back, offer, said_by};
 use crate::shared::Shared;
 use crate::thing::Thing;
 use nob_ids::SpaceId;
-use nob_node::{App, Hold, Node};
+use nob_node::{Hold, Node};
+use nob_nodes::Company;
 use nob_pickle::Value;
 use std::sync::Wait;
 
@@ -30,47 +31,23 @@ pub(crate) enum Part {
     CallsNobody,
 }
 
-/// How often applications meet.
-const MEETINGS: u64 = 3;
-
 /// An application.
 #[derive(Drop)]
 pub(crate) struct Player<'m> {
     shared: &'m Shared,
-    // How many applications there are.
-    players: u64,
-    // How often this one has come to a meeting.
-    came: u64,
     part: Part,
     pub(crate) said: Said,
     pub(crate) refusals: Refusals,
 }
 
 impl<'m> Player<'m> {
-    pub(crate) fn new(shared: &'m Shared, players: u64, part: Part) -> Player<'m> {
+    pub(crate) fn new(shared: &'m Shared, part: Part) -> Player<'m> {
         Player {
             shared,
-            players,
-            came: 0,
             part,
             said: Said::Other,
             refusals: Refusals::new(),
         }
-    }
-
-    // Comes to a meeting and waits for the others.
-    fn meet<R: Wait>(&mut self, rt: &R) {
-        self.came = self.came.saturating_add(1);
-        self.shared.come(rt, 1);
-        self.shared.wait(rt, self.players.saturating_mul(self.came));
-    }
-
-    // Leaves nobody waiting for this one.
-    pub(crate) fn leave<R: Wait>(&mut self, rt: &R) {
-        self.shared.come(rt, MEETINGS.saturating_sub(self.came));
-        self.came = MEETINGS;
-        self.shared.end_holding();
-        self.shared.note_left();
     }
 
     // The object that a name of the first space stands for.
@@ -96,19 +73,19 @@ impl<'m> Player<'m> {
     }
 
     // Has objects for the others.
-    fn own<R: Wait>(&mut self, rt: &R, node: &mut Node<Thing>) {
+    fn own<R: Wait>(&mut self, rt: &R, node: &mut Node<Thing>, company: &Company) {
         let refusals = &mut self.refusals;
         let one = offer(rt, node, refusals, b"one", Thing::Counter(0));
         let other = offer(rt, node, refusals, b"other", Thing::Counter(0));
         let caller = offer(rt, node, refusals, b"caller", Thing::Caller);
-        self.meet(rt);
-        self.meet(rt);
+        let _ = company.meet(rt);
+        let _ = company.meet(rt);
         if self.part == Part::OwnsAndLeaves {
             self.shared.wait_held(rt);
             self.said = running_at(rt, node);
             self.shared.note_left();
         } else {
-            self.meet(rt);
+            let _ = company.meet(rt);
         }
         self.give_back(rt, node, one);
         self.give_back(rt, node, other);
@@ -116,10 +93,10 @@ impl<'m> Player<'m> {
     }
 
     // Calls an object whose method is held up.
-    fn call_held<R: Wait>(&mut self, rt: &R, node: &mut Node<Thing>) {
-        self.meet(rt);
+    fn call_held<R: Wait>(&mut self, rt: &R, node: &mut Node<Thing>, company: &Company) {
+        let _ = company.meet(rt);
         let hold = self.found(rt, node, b"one");
-        self.meet(rt);
+        let _ = company.meet(rt);
         self.shared.hold_next();
         self.said = self.said_by(rt, node, &hold, Value::Unit);
         self.shared.end_holding();
@@ -127,10 +104,10 @@ impl<'m> Player<'m> {
     }
 
     // Calls another object meanwhile, or waits for the owner to leave; then the method goes on.
-    fn let_go_on<R: Wait>(&mut self, rt: &R, node: &mut Node<Thing>) {
-        self.meet(rt);
+    fn let_go_on<R: Wait>(&mut self, rt: &R, node: &mut Node<Thing>, company: &Company) {
+        let _ = company.meet(rt);
         let hold = self.found(rt, node, b"other");
-        self.meet(rt);
+        let _ = company.meet(rt);
         self.shared.wait_held(rt);
         if self.part == Part::CallsOther {
             self.said = self.said_by(rt, node, &hold, Value::Unit);
@@ -143,10 +120,10 @@ impl<'m> Player<'m> {
 
     // Has an object of the other space call one of its own, twice: the second time by another hold
     // on it.
-    fn call_back<R: Wait>(&mut self, rt: &R, node: &mut Node<Thing>) {
-        self.meet(rt);
+    fn call_back<R: Wait>(&mut self, rt: &R, node: &mut Node<Thing>, company: &Company) {
+        let _ = company.meet(rt);
         let hold = self.found(rt, node, b"caller");
-        self.meet(rt);
+        let _ = company.meet(rt);
         if let Some(own) = self.refusals.answered(node.export(rt, Thing::Counter(0))) {
             let _ = self.said_by(rt, node, &hold, Value::Ref(own.rep()));
             if let Some(twin) = self.refusals.answered(node.dup(rt, &own)) {
@@ -183,24 +160,28 @@ impl<'m> Player<'m> {
     }
 }
 
-impl<'m> App<Thing> for Player<'m> {
-    fn run<R: Wait>(&mut self, rt: &R, node: &mut Node<Thing>) {
+impl<'m> nob_nodes::Player<Thing> for Player<'m> {
+    fn run<R: Wait>(&mut self, rt: &R, node: &mut Node<Thing>, company: &Company) {
         match self.part {
-            Part::Owns => return self.own(rt, node),
-            Part::OwnsAndLeaves => return self.own(rt, node),
-            Part::CallsHeld => self.call_held(rt, node),
-            Part::CallsOther => self.let_go_on(rt, node),
-            Part::LetsGoOn => self.let_go_on(rt, node),
-            Part::CallsBack => self.call_back(rt, node),
-            Part::Idles => return,
-            Part::CallsNobody => return self.call_nobody(rt, node),
+            Part::Owns => self.own(rt, node, company),
+            Part::OwnsAndLeaves => self.own(rt, node, company),
+            Part::CallsHeld => self.call_held(rt, node, company),
+            Part::CallsOther => self.let_go_on(rt, node, company),
+            Part::LetsGoOn => self.let_go_on(rt, node, company),
+            Part::CallsBack => self.call_back(rt, node, company),
+            Part::Idles => {}
+            Part::CallsNobody => self.call_nobody(rt, node),
         }
-        self.shared.come(rt, 1);
-        self.came = MEETINGS;
     }
 
-    fn skip<R: Wait>(&mut self, rt: &R) {
-        self.leave(rt);
+    // Leaves nobody waiting for it.
+    fn skip<R: Wait>(&mut self, _rt: &R) {
+        self.shared.end_holding();
+        self.shared.note_left();
+    }
+
+    fn stays(&self) -> bool {
+        self.part != Part::OwnsAndLeaves
     }
 }
 

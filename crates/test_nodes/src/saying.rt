@@ -3,7 +3,7 @@
 use crate::calling::Said;
 use crate::lasting::Lasted;
 use crate::reopening::{Reopened, Twice};
-use crate::running::Played;
+use crate::running::Scene;
 use crate::unbinding::{Heard, Seen, Unbound};
 use crate::verdict::{Outcome, Verdict};
 use std::io;
@@ -12,17 +12,17 @@ use std::io;
 /// the application, and what is said of the scene.
 pub(crate) fn say<R: Print>(
     rt: &R,
-    played: &Option<Played>,
+    scene: &Option<Scene>,
     lines: &[(&str, usize)],
 ) -> io::Result<()> {
-    let Some(played) = played else {
+    let Some(scene) = scene else {
         return println!(rt; "the scene failed");
     };
     for (name, place) in lines {
-        let said = played.said.get(*place).copied().unwrap_or(Said::Other);
+        let said = scene.said.get(*place).copied().unwrap_or(Said::Other);
         say_said(rt, name, said)?;
     }
-    say_outcome(rt, &played.outcome)
+    say_outcome(rt, &scene.outcome)
 }
 
 /// Prints what the scene of two nodes that keep nothing came to.

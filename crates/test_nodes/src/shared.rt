@@ -2,8 +2,8 @@
 
 use nob_ids::JobNo;
 use nob_node::Gate;
+use std::sync::Wait;
 use std::sync::atomic::{AtomicBool, Ordering};
-use std::sync::{Condvar, Mutex, Wait};
 use std::thread;
 
 /// So often a job that is held up looks whether it may go on: more than a run takes.
@@ -12,9 +12,6 @@ const MOST_LOOKS: u64 = 1_000_000_000_000;
 /// What the threads of a scene share. As a gate it holds the next job up, once it is told to.
 #[derive(Drop)]
 pub(crate) struct Shared {
-    // How often applications have come to a meeting.
-    come: Mutex<u64>,
-    changed: Condvar,
     holds_next: AtomicBool,
     is_held: AtomicBool,
     // Whether no job will be held up any more.
@@ -26,29 +23,11 @@ pub(crate) struct Shared {
 impl Shared {
     pub(crate) fn new() -> Shared {
         Shared {
-            come: Mutex::new(0),
-            changed: Condvar::new(),
             holds_next: AtomicBool::new(false),
             is_held: AtomicBool::new(false),
             is_over: AtomicBool::new(false),
             has_left: AtomicBool::new(false),
         }
-    }
-
-    // So many have come so far that hadn't.
-    pub(crate) fn come<R: Wait>(&self, rt: &R, count: u64) {
-        let mut come = self.come.lock(rt);
-        *come = come.saturating_add(count);
-        drop(come);
-        self.changed.notify_all();
-    }
-
-    // Waits until so many have come. Each that comes wakes it.
-    pub(crate) fn wait<R: Wait>(&self, rt: &R, all: u64) {
-        let come = self
-            .changed
-            .wait_while(rt, self.come.lock(rt), |come| *come < all);
-        drop(come);
     }
 
     // The next job is held up.

@@ -1,0 +1,5 @@
+use Rattle.std.proofs.Common.{length}
+use Rattle.nob_nodes.proofs.running.+add_posts.Given as goal
+
+abbrev pub decreases-add_posts : goal.decreases-add_posts
+decreases-add_posts l = length l.starts.items

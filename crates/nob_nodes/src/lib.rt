@@ -1,0 +1,19 @@
+//! Any number of nodes in threads of one program, joined by links: what programs with nodes stand
+//! on.
+#![tactic(auto)]
+
+mod beside;
+mod meeting;
+mod nodes;
+mod player;
+mod running;
+mod shape;
+mod start;
+
+pub use beside::{Beside, Nobody};
+pub use meeting::{Company, Meeting};
+pub use nodes::Nodes;
+pub use player::{Played, Player};
+pub use running::run_nodes;
+pub use shape::Shape;
+pub use start::Start;
