@@ -257,26 +257,6 @@ impl<O: Object> Desk<O> {
         }
     }
 
-    /// Waits for one object to come back, if one is away. False where none is, or none comes any
-    /// more.
-    pub fn wait_back<R: Wait>(&mut self, rt: &R) -> bool
-        ensures back { result ≡ true → assigning.ComesBack self.old self.new }
-        ensures none { result ≡ false → self.new ≡ self.old }
-        ensures same { assigning.IsSameBesideBack self.old self.new }
-    {
-        if self.away == 0 {
-            return false;
-        }
-        match self.returns.get_as(rt) {
-            Some(back) => {
-                self.away = self.away.saturating_sub(1);
-                put_down(&mut self.dispatcher, back);
-                true
-            }
-            None => false,
-        }
-    }
-
     /// Its parts, which are tied: all that its dispatcher has, the job of the errand that it couldn't
     /// give, and its ends.
     pub fn end(
