@@ -1,3 +1,2 @@
 pub mod Crossing
-mod Placing
 mod Unused

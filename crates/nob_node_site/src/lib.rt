@@ -3,18 +3,16 @@
 
 mod config;
 mod crew;
-mod jobs;
 mod making;
 mod site;
 mod threads;
 
 pub use config::{Config, Ends};
 pub use crew::{Crew, run_crew};
-pub use jobs::{NodeJobs, Placed};
 pub use making::site_of;
 pub use nob_agents::Calls;
-pub use nob_dispatch::{
-    Desk, Errand, Gate, Hand, JobCalls, OpenGate, Place, Remaining, Return, Shelf,
+pub use nob_node_jobs::{
+    Desk, Errand, Gate, Hand, JobCalls, NodeJobs, OpenGate, Place, Placed, Remaining, Return, Shelf,
 };
 pub use nob_node_parts::{Inbox, Kept, Left, Outbox, Pulse};
 pub use site::{Parts, Site};
