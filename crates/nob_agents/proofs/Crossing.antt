@@ -15,7 +15,7 @@ use Rattle.nob_agents.specs.declared.parcels.PutParcel as PutParcel
 use Rattle.nob_agents.specs.declared.parcels.TakeParcel as TakeParcel
 use Rattle.nob_agents.specs.contracts.carer.Carer as Carer
 use Rattle.nob_agents.specs.contracts.asking.Asking as Asking
-use Rattle.nob_agents.specs.contracts.pace.Pace as Pace
+use Rattle.nob_agents.specs.contracts.timing.Timing as Timing
 use Rattle.nob_agents.specs.contracts.sender.Sender as Sender
 use Rattle.nob_agents.specs.contracts.sender.Sender.TheInside as SenderInside
 use Rattle.nob_agents.specs.contracts.taker.Taker as Taker
@@ -35,8 +35,8 @@ asking_send = let T = Asking.the_type in recorded_send (Struct (shape T)) T.D T.
 parcel_send : IsSend Parcel.the_row
 parcel_send = search (bytes.the_send, crosses, sendable) depth 60 fits 20000
 
-pace_send : IsSend (Pace.the_field).row
-pace_send = search (crosses, sendable) depth 60 fits 20000
+timing_send : IsSend (Timing.the_field).row
+timing_send = search (crosses, sendable) depth 60 fits 20000
 
 pub carer_send : IsSend Carer.the_row
 carer_send =
@@ -63,4 +63,4 @@ module _ (E : RattleType) (g : PutParcel.Ghosts E.Denot) (crossing : IsSend E) w
   sender_send =
       let T = SenderInside.the_type E g in
       view_send (SenderInside.the_row E g) _ _ _ _ (recorded_send (Struct (shape T)) T.D T.to T.to_one (struct_send (shape T)
-      (seat_send, (Vec-send (Way.the_row E g) way_send, (search sendable, (pace_send, (search (crosses, sendable) depth 60 fits 20000, (search (crosses, sendable) depth 60 fits 20000, tt))))))))
+      (seat_send, (Vec-send (Way.the_row E g) way_send, (search sendable, (timing_send, (search (crosses, sendable) depth 60 fits 20000, (search (crosses, sendable) depth 60 fits 20000, tt))))))))

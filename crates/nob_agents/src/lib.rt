@@ -4,11 +4,11 @@
 mod asking;
 mod calls;
 mod carer;
-mod pace;
 mod parcels;
 mod passing;
 mod sender;
 mod taker;
+mod timing;
 mod turn;
 mod way;
 

@@ -6,9 +6,9 @@ ghost use Rattle.nob_agents.specs.Ways.{IsTied};
 ghost use Rattle.nob_agents.specs.Sending.{AreApart, AreTied};
 
 use crate::calls::Calls;
-use crate::pace::Pace;
 use crate::parcels::PutParcel;
 use crate::passing::{has_gone_on, kept_behind, next_of, pass_on};
+use crate::timing::Timing;
 use crate::turn::Turn;
 use crate::way::{Step, Way};
 use nob_ids::SpaceId;
@@ -28,7 +28,7 @@ pub struct Sender<P: PutParcel + Drop> {
     seat: Seat,
     ways: Vec<Way<P>>,
     handled: usize,
-    pace: Pace,
+    timing: Timing,
     // The peer whose link's other end was found to be gone, and whose session isn't closed yet.
     gone: Option<SpaceId>,
     // At which peers that was found, and the session closed for it.
@@ -69,8 +69,9 @@ impl<P: PutParcel + Drop> Model for Sender<P> {
 }
 
 impl<P: PutParcel + Drop> Sender<P> {
-    /// The agent for these ways. What is out is transmitted again after `pause` turns, and a tick
-    /// is made after every `tick_every` of these repeats, none where that is 0. The caller's
+    /// The agent for these ways. What is out is transmitted again after `pause` turns, and after
+    /// twice as many each time sixteen repeats had nothing new beside them, 32 times as many at
+    /// most; a tick is made after every `tick_every` such pauses, none where that is 0. The caller's
     /// condition: the seat and the ways are unused, and no two ways lead to one peer.
     pub fn new(seat: Seat, ways: Vec<Way<P>>, pause: u32, tick_every: u32) -> Sender<P>
         requires seat { seat ≡ [] }
@@ -82,7 +83,7 @@ impl<P: PutParcel + Drop> Sender<P> {
             seat,
             ways,
             handled: 0,
-            pace: Pace::new(pause, tick_every),
+            timing: Timing::new(pause, tick_every),
             gone: None,
             told: [false; 32],
         }
@@ -195,7 +196,7 @@ impl<P: PutParcel + Drop> Sender<P> {
             return Some(close);
         }
         let dues = self.known(&all);
-        self.pace.next(&dues)
+        self.timing.next(&dues)
     }
 
     // What is new and to be asked next, if something is, where a Transmit would give this. What is
@@ -204,7 +205,7 @@ impl<P: PutParcel + Drop> Sender<P> {
         if let Some(peer) = self.gone.take() {
             return Some(Event::Close(peer));
         }
-        let event = self.pace.next_new(dues)?;
+        let event = self.timing.next_new(dues)?;
         if let Event::Transmit(peer) = &event {
             dues[peer.place()] = Due::Nothing;
         }

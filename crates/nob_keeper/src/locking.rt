@@ -1,25 +1,24 @@
 //! How a lock is taken that others hold for a moment.
 
-use std::hint;
+use crossbeam_utils::Backoff;
 use std::sync::{Mutex, MutexGuard, Wait};
 
-/// So often a thread tries to take a lock before it sleeps.
-const TRIES: u32 = 100;
+/// So often a thread tries to take a lock at most before it sleeps.
+const MOST_TRIES: u32 = 100;
 
-/// So long it leaves the lock alone between two tries.
-const SPINS: u32 = 8;
-
-/// Takes a lock that others hold for some microseconds at a time. It is tried for a while, some ten
-/// microseconds, before the thread sleeps: to sleep and to be woken takes longer. Whoever lets the
+/// Takes a lock that others hold for some microseconds at a time. It is tried for a while, with
+/// growing pauses, before the thread sleeps: to sleep and to be woken takes longer. Whoever lets the
 /// lock go wakes who sleeps.
 pub fn lock_soon<'a, T, R: Wait>(rt: &R, mutex: &'a Mutex<T>) -> MutexGuard<'a, T> {
-    for _ in 0..TRIES {
+    let backoff = Backoff::new();
+    for _ in 0..MOST_TRIES {
         if let Some(guard) = mutex.try_lock() {
             return guard;
         }
-        for _ in 0..SPINS {
-            hint::spin_loop();
+        if backoff.is_completed() {
+            break;
         }
+        backoff.snooze();
     }
     mutex.lock(rt)
 }

@@ -1,5 +1,6 @@
 //! Workers without a job.
 
+use crossbeam_utils::CachePadded;
 use std::sync::Wait;
 use std::sync::atomic::{AtomicBool, AtomicU64, Ordering};
 
@@ -11,11 +12,11 @@ const MOST_LOOKERS: u64 = 1;
 #[derive(Drop)]
 pub struct Idlers {
     // How many errands were given and not taken.
-    errands: AtomicU64,
+    errands: CachePadded<AtomicU64>,
     // How many workers look, or are about to.
-    lookers: AtomicU64,
+    lookers: CachePadded<AtomicU64>,
     // How often an errand was given.
-    rings: AtomicU64,
+    rings: CachePadded<AtomicU64>,
     // Whether no errand comes any more.
     is_over: AtomicBool,
 }
@@ -24,9 +25,9 @@ impl Idlers {
     /// None, and no errand.
     pub fn new() -> Idlers {
         Idlers {
-            errands: AtomicU64::new(0),
-            lookers: AtomicU64::new(0),
-            rings: AtomicU64::new(0),
+            errands: CachePadded::new(AtomicU64::new(0)),
+            lookers: CachePadded::new(AtomicU64::new(0)),
+            rings: CachePadded::new(AtomicU64::new(0)),
             is_over: AtomicBool::new(false),
         }
     }

@@ -3,16 +3,14 @@
 use crate::inbox::{Inbox, Taken};
 use crate::lookout::Lookout;
 use crate::pace::Pace;
+use crossbeam_utils::{Backoff, CachePadded};
 use nob_agents::Calls;
 use std::sync::atomic::{AtomicU64, Ordering};
 use std::sync::{Mutex, Wait};
-use std::{hint, thread};
+use std::thread;
 
 /// So often a thread looks for what it waits for before it sleeps.
 const PATIENCE: u32 = 400;
-
-/// So long it leaves the processor alone between two looks.
-const SPINS: u32 = 30;
 
 /// So many who came to look since the turn before say that others come soon, and so many after a long
 /// rest.
@@ -25,7 +23,7 @@ pub struct Inboxes {
     // The link's own thread has the lock while it sleeps in the link.
     inboxes: Vec<Mutex<Inbox>>,
     // How often a thread without work looked for a parcel.
-    turns: AtomicU64,
+    turns: CachePadded<AtomicU64>,
     lookout: Lookout,
 }
 
@@ -34,7 +32,7 @@ impl Inboxes {
     pub fn new(inboxes: Vec<Mutex<Inbox>>) -> Inboxes {
         Inboxes {
             inboxes,
-            turns: AtomicU64::new(0),
+            turns: CachePadded::new(AtomicU64::new(0)),
             lookout: Lookout::new(),
         }
     }
@@ -110,12 +108,15 @@ impl Inboxes {
     fn look_on<C: Calls, R: Wait, F: Fn() -> bool>(&self, rt: &R, calls: &C, is_there: F) -> bool
         requires { F.IsAlwaysCallable is_there }
     {
+        let backoff = Backoff::new();
         for _ in 0..PATIENCE {
             if is_there() {
                 return true;
             }
-            if !self.take_next(rt, calls) {
-                pause();
+            if self.take_next(rt, calls) {
+                backoff.reset();
+            } else {
+                backoff.snooze();
             }
         }
         is_there()
@@ -149,12 +150,4 @@ fn has_taken<C: Calls, R: Wait>(rt: &R, calls: &C, inbox: &Mutex<Inbox>) -> bool
         Some(mut inbox) => inbox.turn(rt, calls) == Taken::Some,
         None => false,
     }
-}
-
-// Leaves the processor to others for a moment.
-fn pause() {
-    for _ in 0..SPINS {
-        hint::spin_loop();
-    }
-    thread::yield_now();
 }

@@ -27,4 +27,4 @@ pub use outbox::{Outbox, Pulse};
 pub use pace::Pace;
 pub use replies::{Coming, Replies, coming_by, has_accepted};
 pub use start::Start;
-pub use transmitting::{Rest, Transmitting};
+pub use transmitting::{Sleep, Transmitting};

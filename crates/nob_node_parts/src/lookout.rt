@@ -1,5 +1,6 @@
 //! Threads without work that look at the links.
 
+use crossbeam_utils::CachePadded;
 use std::sync::Wait;
 use std::sync::atomic::{AtomicU64, Ordering};
 use std::time::Duration;
@@ -16,20 +17,20 @@ const LONG_REST: u64 = 500;
 #[derive(Drop)]
 pub struct Lookout {
     // How many look.
-    present: AtomicU64,
+    present: CachePadded<AtomicU64>,
     // How many have begun to look.
-    comes: AtomicU64,
+    comes: CachePadded<AtomicU64>,
     // How often nobody looked any more.
-    bell: AtomicU64,
+    bell: CachePadded<AtomicU64>,
 }
 
 impl Lookout {
     /// Nobody looks, nor has looked.
     pub fn new() -> Lookout {
         Lookout {
-            present: AtomicU64::new(0),
-            comes: AtomicU64::new(0),
-            bell: AtomicU64::new(0),
+            present: CachePadded::new(AtomicU64::new(0)),
+            comes: CachePadded::new(AtomicU64::new(0)),
+            bell: CachePadded::new(AtomicU64::new(0)),
         }
     }
 

@@ -3,6 +3,7 @@
 ghost use Rattle.std.specs.Prelude.{◌≡◌};
 ghost use Rattle.nob_node_parts.specs.Coming as coming;
 
+use crossbeam_utils::CachePadded;
 use nob_model_types::{Answer, Event};
 use std::sync::atomic::{AtomicU64, Ordering};
 
@@ -13,11 +14,11 @@ const LONGEST_NOTE: usize = 9;
 #[derive(Drop)]
 pub struct Replies {
     // How many have come.
-    arrived: AtomicU64,
+    arrived: CachePadded<AtomicU64>,
     // How many of them had come when an item was acted on last.
-    acted: AtomicU64,
+    acted: CachePadded<AtomicU64>,
     // How many these were when a call was made last.
-    asked: AtomicU64,
+    asked: CachePadded<AtomicU64>,
 }
 
 /// What an answered event was for who waits for a reply.
@@ -37,9 +38,9 @@ impl Replies {
     /// None has come.
     pub fn new() -> Replies {
         Replies {
-            arrived: AtomicU64::new(0),
-            acted: AtomicU64::new(0),
-            asked: AtomicU64::new(0),
+            arrived: CachePadded::new(AtomicU64::new(0)),
+            acted: CachePadded::new(AtomicU64::new(0)),
+            asked: CachePadded::new(AtomicU64::new(0)),
         }
     }
 

@@ -8,9 +8,9 @@ use std::sync::Wait;
 use std::sync::atomic::{AtomicBool, AtomicU64, Ordering};
 use std::time::Duration;
 
-/// For how long the thread rests that transmits again what is out.
+/// For how long the thread sleeps that transmits again what is out.
 #[derive(Clone, Copy, Debug, PartialEq, Eq)]
-pub enum Rest {
+pub enum Sleep {
     /// What is out may be lost.
     Short,
     /// It is out for a moment.
@@ -19,13 +19,13 @@ pub enum Rest {
     Long,
 }
 
-impl Rest {
+impl Sleep {
     // How many microseconds.
     fn micros(self) -> u64 {
         match self {
-            Rest::Short => 5,
-            Rest::Usual => 100,
-            Rest::Long => 1_000,
+            Sleep::Short => 5,
+            Sleep::Usual => 100,
+            Sleep::Long => 1_000,
         }
     }
 }
@@ -37,7 +37,7 @@ pub struct Transmitting {
     outbox: Offered<Outbox>,
     // Whether something that was transmitted waits for room in a link.
     late: Retry,
-    // The thread that transmits again what is out rests here between its turns.
+    // The thread that transmits again what is out sleeps here between its turns.
     pulse: AtomicU64,
     // Whether no more is transmitted: the links are ended.
     is_sealed: AtomicBool,
@@ -119,9 +119,9 @@ impl Transmitting {
     }
 
     /// Leaves the processor to others for a while. Nobody has to wake it.
-    pub fn rest<R: Wait>(&self, rt: &R, rest: Rest) {
+    pub fn sleep<R: Wait>(&self, rt: &R, sleep: Sleep) {
         self.pulse
-            .park_timeout(rt, 0, Duration::from_micros(rest.micros()));
+            .park_timeout(rt, 0, Duration::from_micros(sleep.micros()));
     }
 
     /// Ends all links: what is new is transmitted, and then the end is put on each.
@@ -132,7 +132,7 @@ impl Transmitting {
             if self.has_ended.load(Ordering::SeqCst) {
                 return;
             }
-            self.rest(rt, Rest::Usual);
+            self.sleep(rt, Sleep::Usual);
         }
     }
 }

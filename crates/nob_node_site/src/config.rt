@@ -33,9 +33,10 @@ pub struct Config {
 
 impl Config {
     /// A space of so many, with these limits and 1 to 16 workers. What is out is transmitted again
-    /// after `pause` turns of yielding, and the sessions' time ticks after every `tick_every` of
-    /// these repeats, never where that is 0. All entries of its space are kept. `None` where a number
-    /// is out of its range, or there is no such space.
+    /// after a pause of `pause` turns of yielding, and less often where a peer answers nothing for
+    /// long; the sessions' time ticks after every `tick_every` such pauses, never where that is 0.
+    /// All entries of its space are kept. `None` where a number is out of its range, or there is no
+    /// such space.
     pub fn new(
         space: SpaceId,
         n: u16,

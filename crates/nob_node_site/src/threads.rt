@@ -4,10 +4,10 @@ use crate::site::Site;
 use nob_dispatch::{Gate, Hand, carry_out};
 use nob_dispatch_objects::Object;
 use nob_keeper::Wake;
-use nob_node_parts::{Kept, Pace, Pulse, Rest};
+use nob_node_parts::{Kept, Pace, Pulse, Sleep};
 use std::sync::Wait;
 
-/// So many times running the thread that transmits again what is out rests for short, while nothing
+/// So many times running the thread that transmits again what is out sleeps shortly, while nothing
 /// happens.
 const SHORT_RESTS: u32 = 64;
 
@@ -60,21 +60,21 @@ pub fn send<B: Object, R: Wait>(rt: &R, site: &Site<B>, is_whole: bool) {
         let is_short = standstill.is_short_after(dues.place, pulse);
         let is_long = pace.is_much_at(dues.place);
         if pulse != Pulse::Done {
-            site.transmitting.rest(rt, rest_of(is_short, is_long));
+            site.transmitting.sleep(rt, sleep_of(is_short, is_long));
         } else if !is_woken(rt, site, dues.place) {
             return;
         }
     }
 }
 
-// For how long the thread rests that transmits again.
-fn rest_of(is_short: bool, is_long: bool) -> Rest {
+// For how long the thread sleeps that transmits again.
+fn sleep_of(is_short: bool, is_long: bool) -> Sleep {
     if is_long {
-        Rest::Long
+        Sleep::Long
     } else if is_short {
-        Rest::Short
+        Sleep::Short
     } else {
-        Rest::Usual
+        Sleep::Usual
     }
 }
 

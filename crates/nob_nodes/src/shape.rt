@@ -13,9 +13,10 @@ pub struct Shape {
     pub limits: Limits,
     /// So many workers a node has: 1 to 16.
     pub workers: usize,
-    /// What is out is transmitted again after so many turns.
+    /// What is out is transmitted again after a pause of so many turns, and less often where a peer
+    /// answers nothing for long.
     pub pause: u32,
-    /// The sessions' time ticks after so many of these repeats, and never where this is 0.
+    /// The sessions' time ticks after so many of these pauses, and never where this is 0.
     pub tick_every: u32,
     /// What a node keeps of its entries.
     pub keep: Keep,

@@ -7,29 +7,51 @@ use nob_model_types::Event;
 /// So many turns an Ack waits for items that it could go with.
 const ACK_PAUSE: u32 = 2;
 
+/// After so many repeats to a peer that had nothing new meanwhile the time until the next one
+/// doubles.
+const REPEATS_AT_A_PACE: u32 = 16;
+
+/// So many pauses pass between two repeats at most.
+const MOST_PAUSES: u32 = 32;
+
 /// When an agent that sends transmits to whom: what is new at once; an Ack alone after some turns,
-/// in which it may still go with an item; and what is out again after more turns, with a tick after
-/// some of these repeats.
+/// in which it may still go with an item; and what is out again after a pause of more turns, or of
+/// twice as many after each so many repeats, and a tick after some of these pauses.
 #[derive(Clone, Copy, Debug)]
-pub(crate) struct Pace {
+pub(crate) struct Timing {
     pause: u32,
     tick_every: u32,
     // At place p - 1: so many turns had nothing new for space p since the last Transmit to it.
     turns: [u32; 32],
-    // How often something was transmitted again since the last tick.
-    repeats: u32,
+    // At place p - 1: so often what is out to space p was transmitted again, and nothing new was.
+    repeats: [u32; 32],
+    // So many pauses passed before repeats since the last tick.
+    pauses: u32,
     tick: Option<SpaceId>,
 }
 
-impl Pace {
+// How many pauses pass before what is out is transmitted once more, where it was so often.
+fn pauses_after(repeats: u32) -> u32 {
+    let mut pauses: u32 = 1;
+    for _ in 0..repeats / REPEATS_AT_A_PACE {
+        if pauses >= MOST_PAUSES {
+            break;
+        }
+        pauses = pauses.saturating_mul(2);
+    }
+    pauses
+}
+
+impl Timing {
     // What is out is transmitted again after so many turns, and a tick is made after so many of
-    // these repeats, none where that is 0.
-    pub(crate) fn new(pause: u32, tick_every: u32) -> Pace {
-        Pace {
+    // these pauses, none where that is 0.
+    pub(crate) fn new(pause: u32, tick_every: u32) -> Timing {
+        Timing {
             pause,
             tick_every,
             turns: [0; 32],
-            repeats: 0,
+            repeats: [0; 32],
+            pauses: 0,
             tick: None,
         }
     }
@@ -61,6 +83,7 @@ impl Pace {
                 && let Some(peer) = SpaceId::new(place as u16 + 1)
             {
                 self.turns[place] = 0;
+                self.repeats[place] = 0;
                 return Some(Event::Transmit(peer));
             }
         }
@@ -74,22 +97,42 @@ impl Pace {
         };
         match due {
             Due::Ack => *turns >= self.pause.min(ACK_PAUSE),
-            Due::Again => *turns >= self.pause,
+            Due::Again => *turns >= self.pause.saturating_mul(self.pauses_to(place)),
             _ => false,
         }
     }
 
-    // Transmits to a peer what isn't new. A tick follows after every so many repeats.
+    // How many pauses pass before what is out to the peer of a place is transmitted again.
+    fn pauses_to(&self, place: usize) -> u32 {
+        match self.repeats.get(place) {
+            Some(repeats) => pauses_after(*repeats),
+            None => MOST_PAUSES,
+        }
+    }
+
+    // Transmits to a peer what isn't new. A tick follows after every so many pauses.
     fn transmit_again(&mut self, peer: SpaceId, due: Due) -> Event {
-        self.turns[peer.place()] = 0;
-        if due == Due::Again && self.tick_every != 0 {
-            self.repeats = self.repeats.saturating_add(1);
-            if self.repeats >= self.tick_every {
-                self.repeats = 0;
-                self.tick = Some(peer);
-            }
+        let place = peer.place();
+        let pauses = self.pauses_to(place);
+        self.turns[place] = 0;
+        if due == Due::Again {
+            self.repeats[place] = self.repeats[place].saturating_add(1);
+            self.count_pauses(peer, pauses);
         }
         Event::Transmit(peer)
+    }
+
+    // So many pauses more have passed: the session with this peer ticks where they are as many as a
+    // tick takes.
+    fn count_pauses(&mut self, peer: SpaceId, pauses: u32) {
+        if self.tick_every == 0 {
+            return;
+        }
+        self.pauses = self.pauses.saturating_add(pauses);
+        if self.pauses >= self.tick_every {
+            self.pauses = 0;
+            self.tick = Some(peer);
+        }
     }
 
     // A turn that had nothing to ask.
@@ -100,6 +143,11 @@ impl Pace {
             } else {
                 turns.saturating_add(1)
             };
+        }
+        for (repeats, due) in self.repeats.iter_mut().zip(dues.iter()) {
+            if *due != Due::Again {
+                *repeats = 0;
+            }
         }
     }
 }
