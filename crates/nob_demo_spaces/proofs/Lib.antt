@@ -1,4 +1,3 @@
-mod Crossing
 pub mod Turns
 pub mod Told
 pub mod Faults

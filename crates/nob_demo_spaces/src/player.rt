@@ -1,10 +1,14 @@
 //! What an application of the scene does.
 
-use crate::meeting::{MEETINGS, Meeting};
-use crate::{Counter, Score, Stop};
+ghost use Rattle.std.specs.Prelude.{◌≡◌, length, IfSome};
+
+use crate::scene::Scene;
+use crate::{Counter, Score, Stop, calls_of};
 use nob_ids::SpaceId;
-use nob_node::{App, Hold, KeeperError, Node, NodeError, Returned};
+use nob_node::{Hold, KeeperError, Node, NodeError, Returned};
+use nob_nodes::{Company, Player};
 use nob_pickle::Value;
+use std::alloc::Global;
 use std::sync::Wait;
 
 /// The name of the counter.
@@ -12,56 +16,54 @@ const NAME: &[u8] = b"counter";
 
 /// An application of the scene: the one that has the counter, or one that calls it.
 #[derive(Drop)]
-pub(crate) struct Player<'m> {
-    meeting: &'m Meeting,
-    // How many applications there are.
-    players: u64,
-    // How often this one has come to the meeting.
-    came: u64,
+pub(crate) struct ScenePlayer {
+    // The counter, at the space that has it.
     counter: Option<Counter>,
+    // The space that has the counter.
     owner: SpaceId,
+    // How many calls it makes.
     calls: u64,
     // What its calls came to.
-    pub(crate) score: Score,
+    score: Score,
     // Why it went no further.
-    pub(crate) stop: Option<Stop>,
+    stop: Option<Stop>,
 }
 
-impl<'m> Player<'m> {
-    // An application that has the counter, or else makes so many calls to it.
-    pub(crate) fn new(
-        meeting: &'m Meeting,
-        players: u64,
-        counter: Option<Counter>,
-        owner: SpaceId,
-        calls: u64,
-    ) -> Player<'m> {
-        Player {
-            meeting,
-            players,
-            came: 0,
+// The applications of all spaces, the first of which has the counter. Only memory fails it.
+pub(crate) fn players_of(alloc: Global, scene: Scene) -> Option<Vec<ScenePlayer>>
+    ensures { IfSome result (λ players. length players.items ≡ scene.spaces) }
+{
+    let owner = SpaceId::new(1)?;
+    let mut players = Vec::new(alloc);
+    while players.len() < usize::from(scene.spaces()) {
+        let number = u16::try_from(players.len() + 1).ok()?;
+        players.push(ScenePlayer::new(scene, number, owner)).ok()?;
+    }
+    Some(players)
+}
+
+impl ScenePlayer {
+    // The application of a space: it has the counter, or else makes its calls to it.
+    fn new(scene: Scene, space: u16, owner: SpaceId) -> ScenePlayer {
+        let counter = if space == owner.get() {
+            Some(Counter::new())
+        } else {
+            None
+        };
+        ScenePlayer {
             counter,
             owner,
-            calls,
+            calls: calls_of(scene, space),
             score: Score::new(),
             stop: None,
         }
     }
 
-    // Comes to the meeting, for the first time or the second, and waits for the others: whether
-    // nobody has left.
-    fn meet<R: Wait>(&mut self, rt: &R) -> bool {
-        self.came = self.came.saturating_add(1);
-        self.meeting.come(rt);
-        self.meeting
-            .wait(rt, self.players.saturating_mul(self.came))
-    }
-
-    // Comes no more, if it hasn't come as often as it should: then nobody waits for it.
-    pub(crate) fn leave<R: Wait>(&mut self, rt: &R) {
-        if self.came < MEETINGS {
-            self.meeting.leave(rt, self.came);
-            self.came = MEETINGS;
+    // What its calls came to, or why it went no further.
+    pub(crate) fn into_score(self) -> Result<Score, Stop> {
+        match self.stop {
+            Some(stop) => Err(stop),
+            None => Ok(self.score),
         }
     }
 
@@ -73,15 +75,21 @@ impl<'m> Player<'m> {
     }
 
     // Exports the counter, has its name stand for it, and gives it back once all have called it.
-    fn own<R: Wait>(&mut self, rt: &R, node: &mut Node<Counter>, counter: Counter) {
+    fn own<R: Wait>(
+        &mut self,
+        rt: &R,
+        node: &mut Node<Counter>,
+        company: &Company,
+        counter: Counter,
+    ) {
         let hold = match node.export(rt, counter) {
             Ok(hold) => hold,
             Err((error, _counter)) => return self.fail(error),
         };
         match node.bind(rt, NAME, &hold) {
             Ok(()) => {
-                let _ = self.meet(rt);
-                let _ = self.meet(rt);
+                let _ = company.meet(rt);
+                let _ = company.meet(rt);
             }
             Err(error) => self.fail(error),
         }
@@ -89,12 +97,12 @@ impl<'m> Player<'m> {
     }
 
     // Looks the counter up, calls it so often, and gives it back: where all have come, else the
-    // counter may not be there, and its node would never answer.
-    fn call_all<R: Wait>(&mut self, rt: &R, node: &mut Node<Counter>) {
-        if self.meet(rt) {
+    // counter may not be there. Then it waits for the others to have done so too.
+    fn call_all<R: Wait>(&mut self, rt: &R, node: &mut Node<Counter>, company: &Company) {
+        if company.meet(rt) {
             self.call_named(rt, node);
         }
-        let _ = self.meet(rt);
+        let _ = company.meet(rt);
     }
 
     // Looks the counter up, calls it so often, and gives it back.
@@ -138,23 +146,26 @@ impl<'m> Player<'m> {
     }
 }
 
-impl<'m> App<Counter> for Player<'m> {
-    fn run<R: Wait>(&mut self, rt: &R, node: &mut Node<Counter>) {
+impl Player<Counter> for ScenePlayer {
+    fn run<R: Wait>(&mut self, rt: &R, node: &mut Node<Counter>, company: &Company) {
         match self.counter.take() {
-            Some(counter) => self.own(rt, node, counter),
-            None => self.call_all(rt, node),
+            Some(counter) => self.own(rt, node, company, counter),
+            None => self.call_all(rt, node, company),
         }
-        self.leave(rt);
     }
+}
 
-    fn skip<R: Wait>(&mut self, rt: &R) {
-        self.leave(rt);
+// Why a scene stops whose node can't go on.
+pub(crate) fn stop_by(error: NodeError) -> Stop {
+    match error {
+        NodeError::Keeper(error) => stop_of(error),
+        NodeError::Refused(_) => Stop::OutOfMemory,
     }
 }
 
 // Why a scene stops whose keeper makes no entry: its trace is full, or else there is no memory, as no
 // other error comes.
-pub(crate) fn stop_of(error: KeeperError) -> Stop {
+fn stop_of(error: KeeperError) -> Stop {
     match error {
         KeeperError::Stamp => Stop::Full,
         _ => Stop::OutOfMemory,

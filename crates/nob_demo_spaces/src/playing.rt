@@ -1,18 +1,18 @@
 //! The scene.
 
-ghost use Rattle.std.specs.Prelude.{◌≡◌, ◌+◌, ◌++◌, ℕ, suc, true, [], length, OnOk};
+ghost use Rattle.std.specs.Prelude.{◌≡◌, ◌+◌, ◌++◌, ℕ, suc, true, [], length, OnOk, IfSome};
 ghost use Rattle.nob_demo_spaces.specs.Lines.{last_line};
 ghost use Rattle.nob_demo_spaces.specs.Endings.{Plays, AreOfEach, AreChainsOf, AreSummariesOf, HaveLeft};
 
-use crate::meeting::Meeting;
-use crate::places::{Place, Played, places_of};
+use crate::player::{ScenePlayer, players_of, stop_by};
 use crate::scene::Scene;
-use crate::{Ending, Score, Stop, graver, say};
+use crate::{Counter, Ending, Score, Stop, graver, say};
 use nob_chain::Chain;
-use nob_node::{Keep, Record, Summary};
+use nob_node::{Keep, Left, NodeError, OpenGate, Record, Report, Summary};
+use nob_nodes::{Nobody, Nodes, Played, Shape, run_nodes};
 use std::alloc::Global;
 use std::sync::Wait;
-use std::thread::{self, Threads};
+use std::thread::Threads;
 
 /// Plays a scene, and writes onto an empty text what came of it: the three lines, or the chains, or
 /// the summaries behind the lines; and how it ended, whose last line is still to follow. It makes a
@@ -26,24 +26,33 @@ pub fn play<R: Threads + Wait + Sync>(
     requires { text.old.items ≡ [] }
     ensures { Plays scene (text.new.items ++ last_line result) result }
 {
-    let Some(places) = places_of(alloc, scene) else {
+    let Some(all) = run_all(rt, alloc, scene) else {
         return Ending::OutOfMemory;
     };
-    run_all(rt, places.as_slice());
-    say_of(alloc, scene, places, text)
+    say_of(alloc, scene, all, text)
 }
 
-// Runs all nodes, a thread each.
-fn run_all<R: Threads + Wait + Sync>(rt: &R, places: &[Place]) {
-    let meeting = Meeting::new();
-    let shared = &meeting;
-    thread::scope(thread::scope_env(), rt, |scope| {
-        for place in places {
-            if scope.spawn(move || place.play(rt, shared)).is_err() {
-                place.stay_away(rt, shared);
-            }
-        }
-    });
+// Runs all nodes, a thread each, with a link each way between each two of them: what each leaves,
+// and who played there. Only memory fails it.
+fn run_all<R: Threads + Wait + Sync>(
+    rt: &R,
+    alloc: Global,
+    scene: Scene,
+) -> Option<Vec<Played<Counter, ScenePlayer>>>
+    ensures { IfSome result (λ all. length all.items ≡ scene.spaces) }
+{
+    let nodes = Nodes::linked(alloc, shape_of(scene), u16::from(scene.spaces()))?;
+    let players = players_of(alloc, scene)?;
+    run_nodes(rt, nodes, &OpenGate, players, &mut Nobody)
+}
+
+// How the nodes of a scene run, and what the links between them do.
+fn shape_of(scene: Scene) -> Shape {
+    let mut shape = Shape::new(scene.keep());
+    shape.workers = usize::from(scene.workers());
+    shape.loss = u64::from(scene.loss());
+    shape.seed = scene.seed();
+    shape
 }
 
 /// What spaces left: chains, where all was kept, or else summaries.
@@ -53,9 +62,14 @@ struct Records {
     summaries: Vec<Summary>,
 }
 
-// Writes what is said of places whose nodes have ended.
-fn say_of(alloc: Global, scene: Scene, places: Vec<Place>, text: &mut Vec<u8>) -> Ending
-    requires places { length places.items ≡ scene.spaces }
+// Writes what is said of nodes that have ended.
+fn say_of(
+    alloc: Global,
+    scene: Scene,
+    all: Vec<Played<Counter, ScenePlayer>>,
+    text: &mut Vec<u8>,
+) -> Ending
+    requires all { length all.items ≡ scene.spaces }
     requires text { text.old.items ≡ [] }
     ensures { Plays scene (text.new.items ++ last_line result) result }
 {
@@ -63,7 +77,7 @@ fn say_of(alloc: Global, scene: Scene, places: Vec<Place>, text: &mut Vec<u8>) -
         chains: Vec::new(alloc),
         summaries: Vec::new(alloc),
     };
-    let (stop, score) = summed(scene.keep(), places, &mut records);
+    let (stop, score) = summed(scene.keep(), all, &mut records);
     let Records { chains, summaries } = records;
     let summaries = summaries.as_slice();
     say(alloc, scene, stop, score, chains, summaries, text)
@@ -71,18 +85,22 @@ fn say_of(alloc: Global, scene: Scene, places: Vec<Place>, text: &mut Vec<u8>) -
 
 // Why the scene stops, if a space stopped or there is no memory for what they left, and what callers
 // counted. Else each of these spaces left its record, which stands behind those of the spaces before.
-fn summed(keep: Keep, mut places: Vec<Place>, records: &mut Records) -> (Option<Stop>, Score)
+fn summed(
+    keep: Keep,
+    mut all: Vec<Played<Counter, ScenePlayer>>,
+    records: &mut Records,
+) -> (Option<Stop>, Score)
     ensures { (before : ℕ)
         → AreOfEach keep before records.old.chains.items records.old.summaries.items
-        → HaveLeft keep (before + length places.items) result.0 records.new.chains.items
+        → HaveLeft keep (before + length all.items) result.0 records.new.chains.items
         records.new.summaries.items }
 {
-    if places.is_empty() {
+    if all.is_empty() {
         return (None, Score::new());
     }
-    let first = places.remove(0);
-    let counted = kept(keep, first.into_left(), records);
-    let (stop, score) = summed(keep, places, records);
+    let first = all.remove(0);
+    let counted = kept(keep, first, records);
+    let (stop, score) = summed(keep, all, records);
     match counted {
         Ok(counted) => (stop, score.with_score(counted)),
         Err(reason) => (Some(graver(reason, stop)), score),
@@ -90,18 +108,37 @@ fn summed(keep: Keep, mut places: Vec<Place>, records: &mut Records) -> (Option<
 }
 
 // What the callers of a space counted, whose record is put behind those of the spaces before. It is
-// looked at once more: that it is this space's. It always is, since no other thread left it.
-fn kept(keep: Keep, left: Result<Played, Stop>, records: &mut Records) -> Result<Score, Stop>
+// looked at once more: that it is this space's. It always is, since no other node left it.
+fn kept(
+    keep: Keep,
+    played: Played<Counter, ScenePlayer>,
+    records: &mut Records,
+) -> Result<Score, Stop>
     ensures { (before : ℕ)
         → AreOfEach keep before records.old.chains.items records.old.summaries.items
         → OnOk result (AreOfEach keep (suc before) records.new.chains.items
         records.new.summaries.items) }
 {
-    let Played { score, record } = left?;
+    let Played { player, left, .. } = played;
+    let score = player.into_score()?;
+    let record = record_in(left)?;
     if keep_record(keep, record, records) {
         return Ok(score);
     }
     Err(Stop::OutOfMemory)
+}
+
+// The record that a node left, or why it couldn't go on.
+fn record_in(
+    left: Result<Report<Counter>, (NodeError, Vec<Left<Counter>>)>,
+) -> Result<Record, Stop> {
+    match left {
+        Ok(report) => {
+            let Report { record, objects: _ } = report;
+            Ok(record)
+        }
+        Err((error, _objects)) => Err(stop_by(error)),
+    }
 }
 
 // Whether what a space left is kept: what is wanted of it, of the next space, and there is memory.

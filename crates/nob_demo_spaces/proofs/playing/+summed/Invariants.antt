@@ -2,4 +2,4 @@ use Rattle.std.proofs.Common.{length}
 use Rattle.nob_demo_spaces.proofs.playing.+summed.Given as goal
 
 abbrev pub decreases-summed : goal.decreases-summed
-decreases-summed l = length l.places.items
+decreases-summed l = length l.all.items
