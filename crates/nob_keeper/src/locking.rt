@@ -3,22 +3,19 @@
 use crossbeam_utils::Backoff;
 use std::sync::{Mutex, MutexGuard, Wait};
 
-/// So often a thread tries to take a lock at most before it sleeps.
-const MOST_TRIES: u32 = 100;
+/// So often a thread tries to take a lock before it sleeps.
+const TRIES: u32 = 18;
 
-/// Takes a lock that others hold for some microseconds at a time. It is tried for a while, with
-/// growing pauses, before the thread sleeps: to sleep and to be woken takes longer. Whoever lets the
-/// lock go wakes who sleeps.
+/// Takes a lock that others hold for some microseconds at a time. It is tried for a while, some ten
+/// microseconds, with growing pauses, before the thread sleeps: to sleep and to be woken takes
+/// longer. Whoever lets the lock go wakes who sleeps.
 pub fn lock_soon<'a, T, R: Wait>(rt: &R, mutex: &'a Mutex<T>) -> MutexGuard<'a, T> {
     let backoff = Backoff::new();
-    for _ in 0..MOST_TRIES {
+    for _ in 0..TRIES {
         if let Some(guard) = mutex.try_lock() {
             return guard;
         }
-        if backoff.is_completed() {
-            break;
-        }
-        backoff.snooze();
+        backoff.spin();
     }
     mutex.lock(rt)
 }
