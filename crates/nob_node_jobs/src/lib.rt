@@ -5,5 +5,5 @@ mod jobs;
 
 pub use jobs::{NodeJobs, Placed};
 pub use nob_dispatch::{
-    Desk, Errand, Gate, Hand, JobCalls, OpenGate, Place, Remaining, Return, Shelf,
+    Desk, Errand, Gate, Hand, JobCalls, OpenGate, Place, Remaining, Return, Shelf, carry_out, serve,
 };

@@ -4,9 +4,9 @@ ghost use denote.Param.Send.{IsSend, IsSync};
 
 use crate::site::Site;
 use crate::threads::{send, serve, take};
-use nob_dispatch::{Gate, Hand};
 use nob_dispatch_objects::Object;
 use nob_keeper::Seat;
+use nob_node_jobs::{Gate, Hand};
 use nob_node_parts::Kept;
 use std::sync::Wait;
 use std::thread::{self, Threads};

@@ -1,9 +1,9 @@
 //! What each thread of a node does.
 
 use crate::site::Site;
-use nob_dispatch::{Gate, Hand, carry_out};
 use nob_dispatch_objects::Object;
 use nob_keeper::Wake;
+use nob_node_jobs::{Gate, Hand, carry_out};
 use nob_node_parts::{Kept, Pace, Pulse, Sleep};
 use std::sync::Wait;
 
@@ -39,7 +39,7 @@ pub fn serve<B: Object, R: Wait, G: Gate>(
             site.idlers.sleep(rt, rings);
         }
     }
-    nob_dispatch::serve(rt, site, gate, hand);
+    nob_node_jobs::serve(rt, site, gate, hand);
     site.jobs.leave(rt);
 }
 

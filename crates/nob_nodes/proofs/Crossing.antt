@@ -3,29 +3,20 @@ use denote.RattleType.{RattleType}
 use denote.Param.Send.{IsSend, IsSync, sendable, recorded_send, recorded_sync, struct_send, struct_sync}
 use denote.Struct.Declared.{shape}
 use denote.Struct.Struct.{Struct}
-use Rattle.std.proofs.Crossing.{crosses, Vec-send}
-use Rattle.nob_keeper.proofs.Crossing.{record_send}
-use Rattle.nob_node.specs.contracts.running.Report as Report
-use Rattle.nob_node_parts.proofs.object.Left.TheSendSync as left
-use Rattle.nob_node_parts.specs.contracts.object.Left as Left
+use Rattle.std.proofs.Crossing.{crosses}
+use Rattle.nob_node.proofs.Crossing.{report_send}
 use Rattle.nob_nodes.proofs.running.Turn.TheSendSync as turn
 use Rattle.nob_nodes.proofs.start.Start.TheSendSync as start
 use Rattle.nob_nodes.specs.contracts.player.Played as Played
 use Rattle.nob_nodes.specs.contracts.running.Post as Post
 
 module _ (O : RattleType) (crossing : IsSend O) where
-  left_send : IsSend (Left.the_row O)
-  left_send = left.the_send O crossing
-
-  report_send : IsSend (Report.the_field O).row
-  report_send = struct_send (shape (Report.the_type O)) (record_send, (Vec-send (Left.the_row O) left_send, tt))
-
   pub played_send : (A : RattleType) → IsSend A → IsSend (Played.the_row O A)
   played_send A crosses_too =
       let T = Played.the_type O A in
       recorded_send (Struct (shape T)) T.D T.to T.to_one (struct_send (shape T) (
         search (crosses, sendable) depth 60 fits 20000,
-        (crosses_too, (search (report_send, left_send, crosses, sendable) depth 60 fits 20000, tt)),
+        (crosses_too, (search (report_send O crossing, crosses, sendable) depth 60 fits 20000, tt)),
       ))
 
   pub post_sync : (A : RattleType) → IsSend A → IsSync (Post.the_row O A)

@@ -1,6 +1,6 @@
 -- How the nodes of a program run, and of which spaces they are.
 use Rattle.std.specs.Prelude.{◌≡◌, ◌+◌, ℕ, List, [], ◌∷◌}
-use Rattle.nob_node_site.specs.declared.config.Config.{Config}
+use Rattle.nob_node.specs.Config.{Config}
 use Rattle.nob_nodes.specs.declared.shape.Shape.{Shape}
 
 -- a node of a space runs as a shape says, one of so many
