@@ -12,7 +12,7 @@ use crate::rows::Rows;
 use crate::scene::Scene;
 use clap::error::ErrorKind;
 use clap::{ArgMatches, Command, Error};
-use nob_node::Keep;
+use nob_nodes::Keep;
 use std::alloc::{AllocError, Global};
 use std::convert::AsStr;
 

@@ -3,7 +3,7 @@
 ghost use Rattle.std.specs.Prelude.{◌≡◌, false, map};
 ghost use Rattle.nob_demo_spaces.specs.Words as spec;
 
-use nob_node::Keep;
+use nob_nodes::Keep;
 use std::convert::AsStr;
 
 /// What the nodes of a scene are to keep by words of which the first is the program's name: nothing

@@ -10,7 +10,7 @@ use crate::rows::Rows;
 use crate::scene::Scene;
 use clap::builder::ValueParser;
 use clap::{Arg, ArgAction, ArgMatches, Command};
-use nob_node::Keep;
+use nob_nodes::Keep;
 use std::alloc::{AllocError, Global};
 
 /// The subcommand `spaces` with its options, by what the nodes keep.

@@ -8,8 +8,10 @@ use crate::player::{ScenePlayer, players_of, stop_by};
 use crate::scene::Scene;
 use crate::{Counter, Ending, Score, Stop, graver, say};
 use nob_chain::Chain;
-use nob_node::{Keep, Left, NodeError, OpenGate, Record, Report, Summary};
-use nob_nodes::{Nobody, Nodes, Played, Shape, run_nodes};
+use nob_nodes::{
+    Keep, Left, Nobody, NodeError, Nodes, OpenGate, Played, Record, Report, Shape, Summary,
+    run_nodes,
+};
 use std::alloc::Global;
 use std::sync::Wait;
 use std::thread::Threads;

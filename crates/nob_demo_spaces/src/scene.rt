@@ -3,7 +3,7 @@
 ghost use Rattle.std.specs.Prelude.{◌≡◌};
 ghost use Rattle.nob_demo_spaces.specs.Scenes.{IsBetween, CanBePlayed, most_calls, most_spaces};
 
-use nob_node::Keep;
+use nob_nodes::Keep;
 use std::marker::Model;
 
 /// A scene of spaces in threads of one process, of which the first exports a counter that the

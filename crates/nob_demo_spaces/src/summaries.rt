@@ -8,7 +8,7 @@ ghost use Rattle.nob_demo_spaces.specs.Lines as spec;
 use crate::score::Score;
 use crate::texts::{calls_line, total_line};
 use nob_ids::Reason;
-use nob_node::{PeerTally, Summary};
+use nob_nodes::{PeerTally, Summary};
 use std::alloc::{AllocError, Global};
 
 // The lines of a scene whose nodes kept nothing.

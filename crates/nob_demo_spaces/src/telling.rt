@@ -11,7 +11,7 @@ use crate::summaries::unchecked_lines;
 use crate::texts::lines;
 use nob_chain::{Chain, ChainError, encode, refusal_line};
 use nob_chain_check::{Merged, SetError, check};
-use nob_node::{Keep, Summary};
+use nob_nodes::{Keep, Summary};
 use std::alloc::{AllocError, Global};
 
 /// Writes what is said of a scene onto an empty text, and says how it ends, whose last line is still

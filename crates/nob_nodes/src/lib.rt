@@ -12,6 +12,10 @@ mod start;
 
 pub use beside::{Beside, Nobody};
 pub use meeting::{Company, Meeting};
+pub use nob_node::{
+    Hold, Keep, KeeperError, Left, Node, NodeError, OpenGate, PeerTally, Record, Report, Returned,
+    Summary,
+};
 pub use nodes::Nodes;
 pub use player::{Played, Player};
 pub use running::run_nodes;
