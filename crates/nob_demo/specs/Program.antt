@@ -15,7 +15,7 @@ use Rattle.nob_demo_traces.specs.Draws as drawings
 use Rattle.nob_demo_traces.specs.declared.drawing.Ending.{Ending as DrawEnding}
 use Rattle.nob_demo_traces.specs.declared.drawing.Ending.TheVariants as draw_endings
 use Rattle.nob_demo_traces.specs.declared.drawing.Part.{Part}
-use Rattle.nob_demo_spaces.specs.declared.rows.Rows.{Rows}
+use Rattle.nob_demo_spaces.specs.declared.excerpt.Excerpt.{Excerpt}
 use Rattle.nob_demo_spaces.specs.declared.command_line.Subcommand.{Subcommand}
 use Rattle.nob_demo_spaces.specs.declared.ending.Ending.{Ending as SceneEnding}
 use Rattle.nob_demo_spaces.specs.declared.ending.Ending.TheVariants as scene_endings
@@ -124,15 +124,15 @@ IsInput true r bytes = IsWhole r × (length bytes ≡ r.bytes) × IfSome r.input
 IsInput false r bytes = (r.reads ≡ 0) × (bytes ≡ [])
 
 -- what is drawn, as the words say it
-abbrev pub part_of : Rows → Part
-part_of rows = record { from = rows.from; to = rows.to; choice = record { owner = rows.owner; index = rows.index; space = rows.space; brief = rows.brief } }
+abbrev pub part_of : Excerpt → Part
+part_of excerpt = record { from = excerpt.from; to = excerpt.to; choice = record { owner = excerpt.owner; index = excerpt.index; space = excerpt.space; brief = excerpt.brief } }
 
 -- what a subcommand writes for an input, and its status; the verdict is never no. Of a scene: what may be written of some score, some traces and some summaries
 abbrev pub Does : Subcommand → (input text : List ℕ) → (status : ℕ) → Type 0
 Does Pair input text status = (outcome : Outcome) × Plays input text outcome × (status ≡ status_of outcome)
 Does Script input text status = (ending : Ending) × worlds.Plays input text ending × worlds.SaysYes ending × (status ≡ world_status_of ending)
 Does Check input text status = (ending : CheckEnding) × checks.Checks input text ending × (status ≡ check_status_of ending)
-Does (Draw rows) input text status = (ending : DrawEnding) × drawings.Draws input (part_of rows) text ending × (status ≡ draw_status_of ending)
+Does (Draw excerpt) input text status = (ending : DrawEnding) × drawings.Draws input (part_of excerpt) text ending × (status ≡ draw_status_of ending)
 Does (Spaces setting) input text status = (ending : SceneEnding) × scenes.Plays setting text ending × (status ≡ scene_status_of ending)
 
 -- what a run was given, and how far it came

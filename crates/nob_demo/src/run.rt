@@ -8,7 +8,7 @@ ghost use Rattle.nob_demo.specs.Program.{Ended, Does, Goes, IsInput, IsReadingFa
 use crate::reading::read_all;
 use crate::streams::{CountedReader, Sink};
 use nob_demo_scripts::pair_script::Outcome;
-use nob_demo_spaces::{Fault, Rows, Subcommand, judge};
+use nob_demo_spaces::{Excerpt, Fault, Subcommand, judge};
 use nob_demo_traces::drawing::{Choice, Part};
 use nob_model_journal::Verdict;
 use nob_script_text::Ending;
@@ -166,8 +166,8 @@ fn play<H: Threads + Wait + Sync>(
             let ending = nob_demo_traces::checking::play(alloc, input, text);
             (ending.last_line(), check_status_of(ending))
         }
-        Subcommand::Draw(rows) => {
-            let ending = nob_demo_traces::drawing::play(alloc, input, part_of(rows), text);
+        Subcommand::Draw(excerpt) => {
+            let ending = nob_demo_traces::drawing::play(alloc, input, part_of(excerpt), text);
             (ending.last_line(), draw_status_of(ending))
         }
         Subcommand::Spaces(scene) => {
@@ -178,17 +178,17 @@ fn play<H: Threads + Wait + Sync>(
 }
 
 // What is drawn, as the words say it.
-fn part_of(rows: Rows) -> Part
-    ensures { result ≡ part_of rows }
+fn part_of(excerpt: Excerpt) -> Part
+    ensures { result ≡ part_of excerpt }
 {
     Part {
-        from: rows.from,
-        to: rows.to,
+        from: excerpt.from,
+        to: excerpt.to,
         choice: Choice {
-            owner: rows.owner,
-            index: rows.index,
-            space: rows.space,
-            brief: rows.brief,
+            owner: excerpt.owner,
+            index: excerpt.index,
+            space: excerpt.space,
+            brief: excerpt.brief,
         },
     }
 }

@@ -72,7 +72,7 @@ record HasNumbers (keep : Keep) (c : List Rule) : Type 0 where
   loss : HasNumber 0 9 (codes "loss") c
   seed : HasNumber 0 greatest (codes "seed") c
 
-record HasRows (c : List Rule) : Type 0 where
+record HasExcerpt (c : List Rule) : Type 0 where
   from : HasNumber 1 greatest (codes "from") c
   to : HasNumber 1 greatest (codes "to") c
   owner : HasNumber 1 32 (codes "owner") c
@@ -83,7 +83,7 @@ record HasRows (c : List Rule) : Type 0 where
 record IsRight (keep : Keep) (s : Shape) : Type 0 where
   own : All (IsOwn s.rules) s.rules
   scene : bytes_eq s.name (codes "spaces") ≡ true → HasNumbers keep s.rules
-  draw : bytes_eq s.name (codes "draw") ≡ true → HasRows s.rules
+  draw : bytes_eq s.name (codes "draw") ≡ true → HasExcerpt s.rules
 
 abbrev leaf : Keep → ℕ → Shape
 leaf keep i = slice_index_or (built (nobj keep)).subs i help_shape
@@ -166,7 +166,7 @@ scene_within keep s rows all has = record {
   seed = within s.rules rows all 0 greatest (codes "seed") has.seed;
 }
 
-draw_within : (s : Shape) (rows : List Row) → All (Good s.rules) rows → HasRows s.rules → DrawIsWithin rows
+draw_within : (s : Shape) (rows : List Row) → All (Good s.rules) rows → HasExcerpt s.rules → DrawIsWithin rows
 draw_within s rows all has = record {
   from = within s.rules rows all 1 greatest (codes "from") has.from;
   to = within s.rules rows all 1 greatest (codes "to") has.to;

@@ -11,7 +11,7 @@ use Rattle.clap.specs.declared.builder.value_parser.ValueParser.TheVariants.{Uns
 use Rattle.nob_kept.specs.declared.keep.Keep.{Keep}
 use Rattle.nob_kept.specs.declared.keep.Keep.TheVariants.{All, Nothing}
 use Rattle.nob_demo_spaces.specs.Scenes.{Setting, most_spaces, most_calls}
-use Rattle.nob_demo_spaces.specs.declared.rows.Rows.{Rows}
+use Rattle.nob_demo_spaces.specs.declared.excerpt.Excerpt.{Excerpt}
 
 -- the option `--NAME N`, where N is a number from the lowest to the highest, as clap sees it
 abbrev pub number_rule : (name : Text) (lowest highest : ℕ) → Rule
@@ -76,9 +76,9 @@ setting_in keep rows = record {
   keep = keep;
 }
 
--- the rows that the options say of which clap found these rows: from the first, to the last that there may be, of any object and space, and small ones too, where an option isn't there
-abbrev pub rows_in : List Row → Rows
-rows_in rows = record {
+-- what of a run the options say of which clap found these rows: from the first, to the last that there may be, of any object and space, and small ones too, where an option isn't there
+abbrev pub excerpt_in : List Row → Excerpt
+excerpt_in rows = record {
   from = number_said 1 (one_of (codes "from") rows);
   to = number_said greatest (one_of (codes "to") rows);
   owner = number_if (one_of (codes "owner") rows);

@@ -6,7 +6,7 @@ use Rattle.clap.specs.Simple.{new_shape}
 use Rattle.clap.specs.Kinds.{Kinds}
 use Rattle.nob_kept.specs.declared.keep.Keep.{Keep}
 use Rattle.nob_kept.specs.declared.keep.Keep.TheVariants.{All, Nothing}
-use Rattle.nob_demo_spaces.specs.Options.{rows_in, draw_shape, spaces_shape, setting_in, AreWithin}
+use Rattle.nob_demo_spaces.specs.Options.{excerpt_in, draw_shape, spaces_shape, setting_in, AreWithin}
 use Rattle.nob_demo_spaces.specs.declared.fault.Fault.{Fault}
 use Rattle.nob_demo_spaces.specs.declared.fault.Fault.TheVariants.{Words, Read, Write, Memory}
 use Rattle.nob_demo_spaces.specs.declared.command_line.Subcommand.{Subcommand}
@@ -57,7 +57,7 @@ takes_words (k ∷ ks) = false
 
 -- the subcommand of this name: `script`, `check`, `draw` or `spaces`, of whose options clap found these rows and whose nodes keep this, or `pair`
 abbrev pub subcommand_named : Keep → (name : Text) → List Row → Subcommand
-subcommand_named keep name rows = if bytes_eq name (codes "script") then Script else (if bytes_eq name (codes "check") then Check else (if bytes_eq name (codes "draw") then Draw (rows_in rows) else (if bytes_eq name (codes "spaces") then Spaces (setting_in keep rows) else Pair)))
+subcommand_named keep name rows = if bytes_eq name (codes "script") then Script else (if bytes_eq name (codes "check") then Check else (if bytes_eq name (codes "draw") then Draw (excerpt_in rows) else (if bytes_eq name (codes "spaces") then Spaces (setting_in keep rows) else Pair)))
 
 -- the subcommand that clap met, with the rows of its options: `pair` where it met none
 abbrev pub subcommand_by : Keep → Option (Text × List Row) → Subcommand

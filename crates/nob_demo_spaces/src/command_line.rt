@@ -5,10 +5,10 @@ ghost use Rattle.clap.specs.Words.{app_of, found_of, rows_of, subcommand_rows_of
 ghost use Rattle.nob_demo_spaces.specs.Options.{AreWithin};
 ghost use Rattle.nob_demo_spaces.specs.Words.{nobj, nobj_with_check, nobj_with_draw, nobj_with_pair, nobj_with_script, subcommand_by, subcommand_in, subcommand_named, word_faults, takes_words, IsWordsFault};
 
+use crate::excerpt::Excerpt;
 use crate::fault::Fault;
 use crate::keeping::keep_in;
-use crate::options::{rows_in, scene_in, with_rows, with_scene};
-use crate::rows::Rows;
+use crate::options::{excerpt_in, scene_in, with_excerpt, with_scene};
 use crate::scene::Scene;
 use clap::error::ErrorKind;
 use clap::{ArgMatches, Command, Error};
@@ -194,7 +194,7 @@ pub enum Subcommand {
     /// Traces and chains of spaces are checked.
     Check,
     /// Traces and chains of spaces are drawn.
-    Draw(Rows),
+    Draw(Excerpt),
     /// A scene of spaces is played.
     Spaces(Scene),
 }
@@ -254,7 +254,7 @@ fn named<'a>(keep: Keep, name: &str, options: &ArgMatches<'a>) -> Subcommand
     } else if name == "check" {
         Subcommand::Check
     } else if name == "draw" {
-        Subcommand::Draw(rows_in(options))
+        Subcommand::Draw(excerpt_in(options))
     } else if name == "spaces" {
         Subcommand::Spaces(scene_in(keep, options))
     } else {
@@ -281,7 +281,7 @@ fn command_with_draw<'a>(alloc: Global) -> Result<Command<'a>, AllocError>
     let draw = Command::new(alloc, "draw")
         .about("Draws traces of spaces, read from standard input, as an SVG")
         .after_help(DRAW_HELP);
-    let draw = with_rows(alloc, draw)?;
+    let draw = with_excerpt(alloc, draw)?;
     let command = command_with_check(alloc)?;
     command.subcommand(draw)
 }

@@ -3,10 +3,10 @@
 ghost use Rattle.std.specs.Prelude.{◌≡◌, ◌≤◌, codes, false, IfOk};
 ghost use Rattle.clap.specs.Words.{app_of, found_of, new_app, one_of, rows_of, rule_of, shape_of};
 ghost use Rattle.clap.specs.declared.builder.command.Command.TheViews.{out-Command as fields_of};
-ghost use Rattle.nob_demo_spaces.specs.Options.{draw_shape, flag_rule, is_said, last_rule, number_rule, rows_in, setting_in, spaces_shape, text_rule, DrawIsWithin, SceneIsWithin};
+ghost use Rattle.nob_demo_spaces.specs.Options.{draw_shape, excerpt_in, flag_rule, is_said, last_rule, number_rule, setting_in, spaces_shape, text_rule, DrawIsWithin, SceneIsWithin};
 ghost use Rattle.nob_demo_spaces.specs.Scenes.{most_calls, most_spaces};
 
-use crate::rows::Rows;
+use crate::excerpt::Excerpt;
 use crate::scene::Scene;
 use clap::builder::ValueParser;
 use clap::{Arg, ArgAction, ArgMatches, Command};
@@ -77,7 +77,7 @@ fn last<'a>(alloc: Global, keep: Keep) -> Arg<'a>
 }
 
 /// The subcommand `draw` with its options.
-pub fn with_rows<'a>(alloc: Global, draw: Command<'a>) -> Result<Command<'a>, AllocError>
+pub fn with_excerpt<'a>(alloc: Global, draw: Command<'a>) -> Result<Command<'a>, AllocError>
     requires new { app_of draw ≡ new_app (codes "draw") }
     requires local { (fields_of draw).has_globals ≡ false }
     ensures shape { IfOk result (λ command. shape_of command ≡ draw_shape) }
@@ -138,10 +138,10 @@ pub fn scene_in<'a>(keep: Keep, options: &ArgMatches<'a>) -> Scene
     Scene::new(spaces, workers, calls, loss, seed, traces, keep)
 }
 
-/// The rows that the options say.
-pub fn rows_in<'a>(options: &ArgMatches<'a>) -> Rows
+/// What of a run the options say.
+pub fn excerpt_in<'a>(options: &ArgMatches<'a>) -> Excerpt
     requires { DrawIsWithin (rows_of (found_of options.now)) }
-    ensures { result ≡ rows_in (rows_of (found_of options.now)) }
+    ensures { result ≡ excerpt_in (rows_of (found_of options.now)) }
 {
     let from = options.get_one::<usize>("from").unwrap_or(1);
     let to = options.get_one::<usize>("to").unwrap_or(usize::MAX);
@@ -149,7 +149,7 @@ pub fn rows_in<'a>(options: &ArgMatches<'a>) -> Rows
     let index = options.get_one::<u64>("index");
     let space = options.get_one::<u16>("space");
     let brief = is_set(options, "brief");
-    Rows {
+    Excerpt {
         from,
         to,
         owner,

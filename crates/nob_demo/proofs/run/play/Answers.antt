@@ -19,6 +19,6 @@ returns-in-Draw g c =
     let ending = c.play-ending-in-Draw.result in
     let before = c.play-ending-in-Draw.new.text.items in
     let drawn = subst (λ (part : Part). drawings.Draws c.args.input.now part (before ++ drawings.last_line ending) ending) c.part_of.ensures c.play-ending-in-Draw.ensures in
-    let said = subst (λ (last : List ℕ). drawings.Draws c.args.input.now (part_of c.in-Draw.rows) (before ++ last) ending) (sym c.last_line-in-Draw.ensures) drawn in
+    let said = subst (λ (last : List ℕ). drawings.Draws c.args.input.now (part_of c.in-Draw.excerpt) (before ++ last) ending) (sym c.last_line-in-Draw.ensures) drawn in
     subst (λ (subcommand : Subcommand). Does subcommand c.args.input.now (before ++ c.last_line-in-Draw.result.now) c.draw_status_of.result) (sym c.in-Draw.is)
     (ending, said, c.draw_status_of.ensures)

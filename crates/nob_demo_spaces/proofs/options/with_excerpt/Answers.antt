@@ -2,7 +2,7 @@ use Rattle.std.proofs.Common.{◌∙◌, ap, ap₂, Bool, ◌||◌}
 use Rattle.std.proofs.lemmas.Result.{IfOk-weaker}
 use Rattle.clap.specs.Words.{App, rule_of, with_rule}
 use Rattle.clap.specs.declared.builder.arg.Arg.{Arg}
-use Rattle.nob_demo_spaces.proofs.options.with_rows.Goals as goal
+use Rattle.nob_demo_spaces.proofs.options.with_excerpt.Goals as goal
 
 abbrev is_global : Arg → Bool
 is_global a = a.global

@@ -1,8 +1,8 @@
-//! Which rows of a run are drawn.
+//! What of a run is drawn.
 
 /// Which rows of a run are drawn, as the options of `draw` say it.
 #[derive(Clone, Copy, Debug, PartialEq, Eq)]
-pub struct Rows {
+pub struct Excerpt {
     /// The first of them, counted from 1.
     pub from: usize,
     /// The last one, where there are so many.

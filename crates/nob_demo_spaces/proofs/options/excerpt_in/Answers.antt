@@ -2,7 +2,7 @@ use Rattle.std.proofs.Common.{◌∙◌, codes, refl, arith}
 use Rattle.clap.specs.Words.{found_of}
 use Rattle.nob_demo_spaces.specs.Options.{greatest}
 use Rattle.nob_demo_spaces.proofs.Readings.{number_got, number_there}
-use Rattle.nob_demo_spaces.proofs.options.rows_in.Goals as goal
+use Rattle.nob_demo_spaces.proofs.options.excerpt_in.Goals as goal
 
 pub returns : goal.returns
 returns c =
