@@ -80,6 +80,7 @@ typedef struct NobPeerCounts {
   uint64_t inbox;          /* items from it that were accepted and not acted on */
   uint64_t waiting;        /* Calls and Replies from it that wait for their references */
   uint64_t ready;          /* jobs of its Calls that weren't claimed */
+  uint64_t surrogates;     /* of its objects, on a session that is open here */
 } NobPeerCounts;
 
 /* What stands at the front of the inbox from a peer: what a kind doesn't have is 0. */
@@ -93,7 +94,7 @@ typedef struct NobFront {
 } NobFront;
 
 /* The version of these functions. */
-enum { NOB_VERSION = 3 };
+enum { NOB_VERSION = 4 };
 
 /* Statuses. With any but NOB_OK nothing has changed at the space. 21 to 28 refuse a pickle, 41 to 52 a
  * frame or a stream, each by its first fault (P1 to P8, F1 to F12 of docs/FORMATS.md). */

@@ -10,21 +10,21 @@ ghost use Rattle.nob_host_space.specs.Counts as counts;
 ghost use Rattle.nob_host_space.specs.Kept.{Through};
 ghost use Rattle.nob_host_space.specs.Looks.{or_zero, past_of};
 
-use nob_host_space::{Counts, Front, Handle, PeerCounts};
+use nob_host_space::{Front, Handle, PeerCounts, SpaceCounts};
 use std::alloc::Global;
 
 /// The version of these functions: it rises whenever a function, a struct or a status changes. A
 /// program that was written for another one makes no space.
 #[unsafe(no_mangle)]
 pub extern "C" fn nob_version() -> u32
-    ensures { result ≡ 3 }
+    ensures { result ≡ 4 }
 {
-    3
+    4
 }
 
 /// How much the space has: objects, surrogates, calls and messages.
 #[unsafe(no_mangle)]
-pub extern "C" fn nob_counts(handle: &mut Handle, alloc: Global, counted: &mut Counts)
+pub extern "C" fn nob_counts(handle: &mut Handle, alloc: Global, counted: &mut SpaceCounts)
     requires { IsSome handle.old.held }
     ensures counts { Through handle.old.held handle.new.held (λ old new. (L : List Entry)
         → StandsFor old.space L → counted.new ≡ words.counts old.space.id old.space.n
@@ -37,7 +37,7 @@ pub extern "C" fn nob_counts(handle: &mut Handle, alloc: Global, counted: &mut C
 }
 
 /// How much of what the space has is with a peer: all is 0 where the number is no peer's. It looks
-/// for each message of the peer that waits, and for each of its ready jobs.
+/// for each message of the peer that waits, for each of its ready jobs, and at each surrogate.
 #[unsafe(no_mangle)]
 pub extern "C" fn nob_peer_counts(
     handle: &mut Handle,
@@ -48,7 +48,7 @@ pub extern "C" fn nob_peer_counts(
     requires { IsSome handle.old.held }
     ensures counts { IsSpace peer → Through handle.old.held handle.new.held (λ old new. is_peer
         old.space.id old.space.n peer ≡ true → (L : List Entry) → StandsFor old.space L
-        → counted.new ≡ words.peer_counts peer (past_of old.space L)) }
+        → counted.new ≡ words.peer_counts old.space.id old.space.n peer (past_of old.space L)) }
     ensures none { Through handle.old.held handle.new.held (λ old new. is_peer old.space.id
         old.space.n peer ≡ false → counted.new ≡ counts.no_counts) }
     ensures range { (IsSpace peer → ⊥) → counted.new ≡ counts.no_counts }

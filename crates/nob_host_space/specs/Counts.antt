@@ -9,7 +9,7 @@ use Rattle.nob_host_space.specs.declared.counts.Front.{Front}
 
 -- the counts of no peer
 abbrev pub no_counts : PeerCounts
-no_counts = record { pinned = 0; unacknowledged = 0; inbox = 0; waiting = 0; ready = 0 }
+no_counts = record { pinned = 0; unacknowledged = 0; inbox = 0; waiting = 0; ready = 0; surrogates = 0 }
 
 -- there is nothing at the front
 abbrev pub no_front : Front

@@ -13,7 +13,7 @@ use crate::host::Host;
 use nob_ids::{CallNo, ItemNo, SpaceId};
 use nob_model::Here;
 use nob_peek::{Seen, peek};
-use nob_space::{Counts, PeerCounts};
+use nob_space::{PeerCounts, SpaceCounts};
 
 /// What stands at the front of the inbox from a peer: what an Act would act on.
 #[repr(C)]
@@ -115,6 +115,7 @@ fn counts_of_none() -> PeerCounts
         inbox: 0,
         waiting: 0,
         ready: 0,
+        surrogates: 0,
     }
 }
 
@@ -130,7 +131,7 @@ fn call_or_zero(call: Option<CallNo>) -> u64
 
 impl Host {
     /// How much the space has: objects, surrogates, calls and messages.
-    pub fn counts(&self) -> Counts
+    pub fn counts(&self) -> SpaceCounts
         ensures { (L : List Entry) → StandsFor self.now.space L → result ≡ words.counts
             self.now.space.id self.now.space.n (past_of self.now.space L) }
     {
@@ -138,11 +139,13 @@ impl Host {
     }
 
     /// How much of what the space has is with a peer: all is 0 where the number is no peer's. It
-    /// looks for each message of the peer that waits, and for each of its ready jobs.
+    /// looks for each message of the peer that waits, for each of its ready jobs, and at each
+    /// surrogate.
     pub fn peer_counts(&self, peer: u16) -> PeerCounts
         ensures counts { IsSpace peer → is_peer self.now.space.id self.now.space.n peer ≡ true
             → (L : List Entry) → StandsFor self.now.space L → result
-            ≡ words.peer_counts peer (past_of self.now.space L) }
+            ≡ words.peer_counts self.now.space.id self.now.space.n peer
+            (past_of self.now.space L) }
         ensures none { is_peer self.now.space.id self.now.space.n peer ≡ false
             → result ≡ counts.no_counts }
         ensures range { (IsSpace peer → ⊥) → result ≡ counts.no_counts }

@@ -23,5 +23,5 @@ pub use counts::Front;
 pub use handle::Handle;
 pub use host::Host;
 pub use looks::{Tally, Work};
-pub use nob_space::{Counts, PeerCounts};
+pub use nob_space::{PeerCounts, SpaceCounts};
 pub use told::Told;

@@ -1,8 +1,9 @@
 -- What a space has and how much of that is with a peer, by its state.
-use Rattle.std.proofs.Common.{◌≡◌, ℕ, ◌+◌, ◌==◌, true, false, cond, List, [], ◌∷◌, map, filter, length, None, is_some, refl, sym, ap, ◌∙◌, arith, if◌then◌else◌}
+use Rattle.std.proofs.Common.{◌≡◌, ℕ, ◌+◌, ◌==◌, ◌&&◌, Bool, true, false, cond, List, [], ◌∷◌, map, filter, length, None, is_some, refl, sym, ap, ◌∙◌, arith, if◌then◌else◌}
 use Prim.Native.Nat.{suc}
 use Rattle.std.specs.List.{sum_by}
 use Rattle.std.proofs.lemmas.List.Sums.{sum_by-cons}
+use Rattle.std.proofs.lemmas.Map.Made.{length-from_same_keys, is_member-filter}
 use Rattle.nob_ids.specs.declared.limits.Limits.{Limits}
 use Rattle.nob_model_session.specs.End.{unacknowledged, waiting}
 use Rattle.nob_ids.specs.declared.wire_rep.WireRep.{WireRep}
@@ -12,7 +13,9 @@ use Rattle.nob_session.specs.Stands.{End}
 use Rattle.nob_session.proofs.Alike.{onward_is}
 use Rattle.nob_rows.specs.Rows.{IsOnce}
 use Rattle.nob_table_rows.specs.Standings.{is_surrogate}
-use Rattle.nob_table.specs.Table.{standing, place_of, surrogate_total}
+use Rattle.nob_table_rows.proofs.Same.{same_is, same_laws}
+use Rattle.nob_ids.specs.Names.{is_same}
+use Rattle.nob_table.specs.Table.{standing, place_of, surrogate_reps, surrogate_total}
 use Rattle.nob_model_types.specs.declared.deed.Deed.{Deed}
 use Rattle.nob_model_types.specs.Sessions.{is_peer}
 use Rattle.nob_model_work.specs.declared.work.Outstanding.{Outstanding}
@@ -20,15 +23,18 @@ use Rattle.nob_model_history.specs.declared.history.History.{History}
 use Rattle.nob_model_history.specs.declared.transit.SentItem.{SentItem}
 use Rattle.nob_model_history.specs.Histories.{history_of}
 use Rattle.nob_model_history.specs.Ends.{calls_at}
-use Rattle.nob_model_history.specs.Transit.{bundles}
+use Rattle.nob_model_history.specs.Transit.{bundles, by_last_dirty, dirties, surrogates}
+use Rattle.nob_model_history.proofs.Surrogates.{has_surrogate}
 use Rattle.nob_model.specs.Tallies.{live_count}
 use Rattle.nob_space_state.specs.Looks.{end_with, has_closed}
 use Rattle.nob_space_state.specs.Parts.{State}
 use Rattle.nob_space_state.specs.Stands.{Stands, bundle}
 use Rattle.nob_space_state.proofs.Calling.{end_of_peer}
+use Rattle.nob_space_state.proofs.Rows.{distinct_filtered}
 use Rattle.nob_space_state.proofs.Told.{closed_there}
-use Rattle.nob_space_items.proofs.Refused.{surrogates_there}
-use Rattle.nob_space.specs.Counts.{counts, peer_counts, front, pinned_to, messages_from, held_by}
+use Rattle.nob_space_items.proofs.Among.{last_distinct}
+use Rattle.nob_space_items.proofs.Refused.{among_surrogates, surrogates_there}
+use Rattle.nob_space.specs.Counts.{counts, peer_counts, front, pinned_to, messages_from, surrogates_of, held_by}
 
 -- 1 for the pins of an item to p
 abbrev one_of : ℕ → Pinned → ℕ
@@ -83,11 +89,23 @@ module _ {s n : ℕ} {limits : Limits} {st : State} {D : List Deed} (stands : St
         replies = (replies_is ∙ ap (λ (W : Outstanding). length W.replies) stands.work) i;
       }
 
+  -- as many surrogates are of p's objects
+  pub surrogates_with : (p : ℕ) → IsOnce st.table.surrogates → ((rep : WireRep) → is_some (place_of st.table rep) ≡ is_surrogate (standing st.table rep).state)
+      → length (filter (λ (rep : WireRep). rep.owner == p) (surrogate_reps st.table)) ≡ length (surrogates_of s n p (history_of s n D))
+  surrogates_with p once placed =
+      let there : List WireRep = surrogate_reps st.table in
+      let known : List WireRep = surrogates s n (history_of s n D) in
+      let test : WireRep → Bool = λ rep. rep.owner == p in
+      let alike : (q rep : WireRep) → is_same q rep ≡ true → test q ≡ test rep = λ q rep same. ap test (same_is q rep same) in
+      length-from_same_keys same_laws (filter test there) (filter test known) (distinct_filtered is_same test there once)
+      (distinct_filtered is_same test known (distinct_filtered is_same (has_surrogate s n D) (by_last_dirty (history_of s n D)) (last_distinct (dirties (history_of s n D)))))
+      (λ q. is_member-filter same_laws test q (alike q) there ∙ ap (λ b. b && test q) (among_surrogates stands placed q) ∙ sym (is_member-filter same_laws test q (alike q) known))
+
   -- how much of it is with p
-  pub peer_counts_there : (p : ℕ) → is_peer s n p ≡ true → {bundle_count come able : ℕ} {both : ℕ × ℕ}
-      → bundle_count ≡ length (of_peer p st.pins.bundles) → both ≡ held_by (end_with st.sessions p) → come ≡ length (messages_from p st.work.waiting) → able ≡ length (messages_from p st.work.ready)
-      → record { pinned = bundle_count; unacknowledged = both.0; inbox = both.1; waiting = come; ready = able } ≡ peer_counts p (history_of s n D)
-  peer_counts_there p peer counted held waiting_is ready_is =
+  pub peer_counts_there : (p : ℕ) → is_peer s n p ≡ true → IsOnce st.table.surrogates → ((rep : WireRep) → is_some (place_of st.table rep) ≡ is_surrogate (standing st.table rep).state) → {bundle_count come able surrogate_count : ℕ} {both : ℕ × ℕ}
+      → bundle_count ≡ length (of_peer p st.pins.bundles) → both ≡ held_by (end_with st.sessions p) → come ≡ length (messages_from p st.work.waiting) → able ≡ length (messages_from p st.work.ready) → surrogate_count ≡ length (filter (λ (rep : WireRep). rep.owner == p) (surrogate_reps st.table))
+      → record { pinned = bundle_count; unacknowledged = both.0; inbox = both.1; waiting = come; ready = able; surrogates = surrogate_count } ≡ peer_counts s n p (history_of s n D)
+  peer_counts_there p peer once placed counted held waiting_is ready_is total =
       let both_are = held ∙ held_there p peer in
       λ i. record {
         pinned = (counted ∙ pinned_there p) i;
@@ -95,6 +113,7 @@ module _ {s n : ℕ} {limits : Limits} {st : State} {D : List Deed} (stands : St
         inbox = (both_are i).1;
         waiting = (waiting_is ∙ ap (λ (W : Outstanding). length (messages_from p W.waiting)) stands.work) i;
         ready = (ready_is ∙ ap (λ (W : Outstanding). length (messages_from p W.ready)) stands.work) i;
+        surrogates = (total ∙ surrogates_with p once placed) i;
       }
 
   -- the front of an open session's inbox

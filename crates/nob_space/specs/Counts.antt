@@ -2,6 +2,7 @@
 use Rattle.std.specs.Prelude.{ℕ, ◌&&◌, ◌==◌, not, List, length, filter, Option, Some, None, if◌then◌else◌}
 use Rattle.nob_model_session.specs.End.{unacknowledged, waiting}
 use Rattle.nob_model_session.specs.Right.{right_front}
+use Rattle.nob_ids.specs.declared.wire_rep.WireRep.{WireRep}
 use Rattle.nob_model_types.specs.declared.message.Message.{Message}
 use Rattle.nob_model_types.specs.Sessions.{is_peer, closed}
 use Rattle.nob_model_history.specs.declared.history.History.{History}
@@ -11,11 +12,11 @@ use Rattle.nob_model_history.specs.Transit.{bundles, surrogates}
 use Rattle.nob_model.specs.Tallies.{live_count}
 use Rattle.nob_session.specs.Stands.{Roomy}
 use Rattle.nob_space_calls.specs.Calls.{first_call}
-use Rattle.nob_space.specs.declared.counts.Counts.{Counts}
+use Rattle.nob_space.specs.declared.counts.SpaceCounts.{SpaceCounts}
 use Rattle.nob_space.specs.declared.counts.PeerCounts.{PeerCounts}
 
 -- how much space s among n has: live objects, surrogates on open sessions, own calls that aren't taken, and messages: those that wait, ready and running jobs, ready replies
-abbrev pub counts : (s n : ℕ) → History → Counts
+abbrev pub counts : (s n : ℕ) → History → SpaceCounts
 counts s n h =
     record {
       live = live_count s h;
@@ -35,15 +36,20 @@ pinned_to p h = filter (λ sent_item. sent_item.to == p) (bundles h)
 abbrev pub messages_from : ℕ → List Message → List Message
 messages_from p messages = filter (λ message. message.from == p) messages
 
--- how much of what a space has is with p: the items to p that have pins, those that p hasn't acknowledged, those from p that wait to be acted on, and p's messages that wait for their references or are ready jobs
-abbrev pub peer_counts : ℕ → History → PeerCounts
-peer_counts p h =
+-- the surrogates of p's objects, on an open session
+abbrev pub surrogates_of : (s n p : ℕ) → History → List WireRep
+surrogates_of s n p h = filter (λ rep. rep.owner == p) (surrogates s n h)
+
+-- how much of what space s among n has is with p: the items to p that have pins, those that p hasn't acknowledged, those from p that wait to be acted on, p's messages that wait for their references or are ready jobs, and the surrogates of p's objects
+abbrev pub peer_counts : (s n p : ℕ) → History → PeerCounts
+peer_counts s n p h =
     record {
       pinned = length (pinned_to p h);
       unacknowledged = length (unacknowledged (calls_at p h));
       inbox = length (waiting (calls_at p h));
       waiting = length (messages_from p h.work.waiting);
       ready = length (messages_from p h.work.ready);
+      surrogates = length (surrogates_of s n p h);
     }
 
 -- the item that an Act on p would act on, with its number: the front of the inbox from p, on an open session

@@ -19,7 +19,7 @@ use nob_space_state::Parts;
 /// How much a space has of what its memory goes to. It is laid out as C does.
 #[repr(C)]
 #[derive(Clone, Copy, Debug, PartialEq, Eq)]
-pub struct Counts {
+pub struct SpaceCounts {
     /// Its live objects: exported and not withdrawn.
     pub live: u64,
     /// Its surrogates of others' objects, on sessions that are open here.
@@ -50,10 +50,12 @@ pub struct PeerCounts {
     pub waiting: u64,
     /// The jobs of the peer's Calls that are ready and weren't claimed.
     pub ready: u64,
+    /// The surrogates of the peer's objects, on a session that is open here.
+    pub surrogates: u64,
 }
 
 // How much a space has.
-fn counts_of(parts: &Parts) -> Counts
+fn counts_of(parts: &Parts) -> SpaceCounts
     ensures { (limits : LimitsOf) (D : List Deed)
         → StandFor limits parts.now D
         → result ≡ words.counts parts.now.here.space parts.now.here.n
@@ -66,7 +68,7 @@ fn counts_of(parts: &Parts) -> Counts
     let ready = parts.jobs.ready_len() as u64;
     let running = parts.jobs.running_len() as u64;
     let replies = parts.calls.replies_len() as u64;
-    Counts {
+    SpaceCounts {
         live,
         surrogates,
         calls,
@@ -106,18 +108,21 @@ fn counts_with(parts: &Parts, peer: SpaceId) -> PeerCounts
     requires { is_peer parts.now.here.space parts.now.here.n peer ≡ true }
     ensures { (limits : LimitsOf) (D : List Deed)
         → StandFor limits parts.now D
-        → result ≡ words.peer_counts peer (history_for parts.now D) }
+        → result ≡ words.peer_counts parts.now.here.space parts.now.here.n peer
+        (history_for parts.now D) }
 {
     let pinned = parts.pins.bundles(peer) as u64;
     let held = held_with(parts, peer);
     let waiting = waiting_from(parts, peer) as u64;
     let ready = ready_from(parts, peer) as u64;
+    let surrogates = parts.table.surrogate_count_of(peer) as u64;
     PeerCounts {
         pinned,
         unacknowledged: held.0 as u64,
         inbox: held.1 as u64,
         waiting,
         ready,
+        surrogates,
     }
 }
 
@@ -152,7 +157,7 @@ fn next_reply_of(parts: &Parts) -> Option<CallNo>
 impl Space {
     /// How much the space has: objects, surrogates, calls and messages. It takes no memory, and
     /// constant time.
-    pub fn counts(&self) -> Counts
+    pub fn counts(&self) -> SpaceCounts
         ensures { (L : List Entry) → StandsFor self.now L
             → result ≡ words.counts self.now.id self.now.n
             (history self.now.id self.now.n L) }
@@ -161,11 +166,13 @@ impl Space {
     }
 
     /// How much of what the space has is with a peer. It takes no memory. It looks for each message
-    /// of the peer that waits, and for each of its ready jobs. The caller's condition: it is a peer.
+    /// of the peer that waits, for each of its ready jobs, and at each surrogate of the space. The
+    /// caller's condition: it is a peer.
     pub fn peer_counts(&self, peer: SpaceId) -> PeerCounts
         requires { is_peer self.now.id self.now.n peer ≡ true }
         ensures { (L : List Entry) → StandsFor self.now L
-            → result ≡ words.peer_counts peer (history self.now.id self.now.n L) }
+            → result ≡ words.peer_counts self.now.id self.now.n peer
+            (history self.now.id self.now.n L) }
     {
         counts_with(&self.parts, peer)
     }

@@ -8,7 +8,7 @@ mod space;
 mod twice;
 mod work;
 
-pub use counts::{Counts, PeerCounts};
+pub use counts::{PeerCounts, SpaceCounts};
 pub use nob_model::{Backlog, Tally};
 pub use nob_session::Due;
 pub use nob_space_items::{ActResult, SettledItem};

@@ -1,3 +1,4 @@
+pub mod Counting
 pub mod Gaps
 pub mod Kept
 pub mod Linked

@@ -83,6 +83,15 @@ impl Far {
         self.surrogates.len()
     }
 
+    /// How many surrogates of this owner there are. Linear in the surrogates.
+    pub fn surrogates_of(&self, owner: SpaceId) -> usize
+        ensures count { result
+            ≡ length (filter (λ rep. rep.owner == owner) (reps_of self.now.surrogates)) }
+        ensures once { IsOnce self.now.surrogates }
+    {
+        self.surrogates.count_of(owner)
+    }
+
     /// How many Dirties were sent.
     pub fn dirties(&self) -> u128
         ensures { result ≡ self.now.dirties }
@@ -122,8 +131,8 @@ impl Far {
     }
 
     /// The surrogate with the least place from this one on that is granted, has no holds and isn't
-    /// kept from outside, with its place. Logarithmic in the slots, and then a few words of bits: it
-    /// passes no surrogate.
+    /// kept from outside, with its place. Logarithmic in the slots, and then a few words of bits:
+    /// it passes no surrogate.
     pub fn first_spare(&self, place: u128) -> Option<(u128, WireRep)>
         ensures { MatchOption result
             (NeverSpareIn self.now.counted self.now.surrogates self.now.kept place)

@@ -1,13 +1,13 @@
 //! The surrogates on open sessions, each with its mark.
 
-ghost use Rattle.std.specs.Prelude.{◌≡◌, ◌&&◌, ◌+◌, ◌<◌, ◌≤◌, [], length, None, Some, IsSome, is_some, IsOk, OnOk, if◌then◌else◌};
+ghost use Rattle.std.specs.Prelude.{◌≡◌, ◌==◌, ◌&&◌, ◌+◌, ◌<◌, ◌≤◌, [], filter, length, None, Some, IsSome, is_some, IsOk, OnOk, if◌then◌else◌};
 ghost use Rattle.std.specs.Option.{option_map};
 ghost use Rattle.nob_ids.specs.Names.{is_same};
 ghost use Rattle.nob_ids.specs.declared.wire_rep.WireRep.{WireRep};
-ghost use Rattle.nob_rows.specs.Rows.{row_at, Puts, IsOnce};
+ghost use Rattle.nob_rows.specs.Rows.{row_at, reps_of, Puts, IsOnce};
 ghost use Rattle.nob_table_rows.specs.Objects.{SameMarks, is_marked};
 
-use nob_ids::WireRep;
+use nob_ids::{SpaceId, WireRep};
 use nob_rows::Rows;
 use nob_table_rows::Surrogate;
 use std::alloc::{AllocError, Global};
@@ -41,6 +41,20 @@ impl Model for Surrogates {
     } };
 }
 
+// How many rows are of objects of this owner.
+fn count_of(rows: &Rows<Marked>, owner: SpaceId) -> usize
+    ensures { result ≡ length (filter (λ rep. rep.owner == owner) (reps_of rows.now.rows)) }
+{
+    let mut count = 0;
+    for at in 0..rows.len() {
+        let rep = rows.rep_at(at);
+        if rep.owner == owner {
+            count += 1;
+        }
+    }
+    count
+}
+
 impl Surrogates {
     /// None. It takes no memory before the first.
     pub fn new(alloc: Global) -> Surrogates
@@ -60,6 +74,13 @@ impl Surrogates {
             → is_some (row_at self.now.kept rep) ≡ is_some (row_at self.now.rows rep) }
     {
         self.rows.len()
+    }
+
+    /// How many of them are of objects of this owner. Linear in them all.
+    pub fn count_of(&self, owner: SpaceId) -> usize
+        ensures { result ≡ length (filter (λ rep. rep.owner == owner) (reps_of self.now.rows)) }
+    {
+        count_of(&self.rows, owner)
     }
 
     /// The surrogate of a reference, with its mark. At most 70 steps.

@@ -206,8 +206,20 @@ impl ObjectTable {
         self.far.len()
     }
 
-    /// Whether the table has anything of an object of this owner, another space: a surrogate, or a lost
-    /// reference, which is held. At most 7 steps in a tree.
+    /// How many surrogates of objects of this owner there are on an open session. Linear in the
+    /// surrogates.
+    pub fn surrogate_count_of(&self, owner: SpaceId) -> usize
+        ensures count { result
+            ≡ length (filter (λ rep. rep.owner == owner) (surrogate_reps self.now)) }
+        ensures once { IsOnce self.now.surrogates }
+        ensures placed { (rep : WireRep)
+            → is_some (place_of self.now rep) ≡ is_surrogate (standing self.now rep).state }
+    {
+        self.far.surrogates_of(owner)
+    }
+
+    /// Whether the table has anything of an object of this owner, another space: a surrogate, or a
+    /// lost reference, which is held. At most 7 steps in a tree.
     pub fn has_of(&self, owner: SpaceId) -> bool
         ensures found { result ≡ true → KnowsOf self.now owner }
         ensures none { result ≡ false → (rep : WireRep) → is_of self.now owner rep ≡ true
@@ -404,9 +416,9 @@ impl ObjectTable {
         self.far.first_idle(place)
     }
 
-    /// The first surrogate in the order of the last Dirties, from this place on, that is granted and
-    /// without holds, and isn't kept from outside, with its place. Logarithmic in the surrogates, and
-    /// then a few words of bits: it passes no surrogate.
+    /// The first surrogate in the order of the last Dirties, from this place on, that is granted
+    /// and without holds, and isn't kept from outside, with its place. Logarithmic in the
+    /// surrogates, and then a few words of bits: it passes no surrogate.
     pub fn first_spare_surrogate(&self, place: u128) -> Option<(u128, WireRep)>
         ensures first { MatchOption result (NeverSpareFrom self.now place)
             (λ found. IsFirstSpareFrom self.now place found.0 found.1) }

@@ -169,6 +169,7 @@ fn what_a_space_has_is_counted_and_what_came_is_seen() {
     two.act(id(1)).unwrap();
     assert_eq!(two.counts(), Counts { surrogates: 1, waiting: 1, ..Counts::default() });
     assert_eq!((two.peer_counts(id(1)).waiting, two.peer_counts(id(1)).ready), (1, 0));
+    assert_eq!((two.peer_counts(id(1)).surrogates, one.peer_counts(id(2)).surrogates), (1, 0));
     exchange(&mut one, &mut two);
     assert_eq!(two.counts(), Counts { surrogates: 1, ready: 1, ..Counts::default() });
     assert_eq!(one.peer_counts(id(2)).pinned, 0);
@@ -176,8 +177,9 @@ fn what_a_space_has_is_counted_and_what_came_is_seen() {
     two.claim().unwrap();
     assert_eq!(two.peer_counts(id(1)).ready, 0);
     assert_eq!((two.counts().running, two.counts().messages()), (1, 1));
-    // A session that has closed has nothing in front.
+    // A session that has closed has nothing in front, and no surrogates.
     two.close(id(1)).unwrap();
+    assert_eq!(two.peer_counts(id(1)).surrogates, 0);
     assert_eq!((two.front(id(1)), two.front(id(2))), (None, None));
 }
 

@@ -178,6 +178,8 @@ pub struct PeerCounts {
     pub waiting: u64,
     /// The jobs of the peer's Calls that are ready and weren't claimed.
     pub ready: u64,
+    /// The surrogates of the peer's objects, on a session that is open here.
+    pub surrogates: u64,
 }
 
 /// What stands at the front of the inbox from a peer: what an Act would act on.
@@ -209,9 +211,9 @@ pub struct Front {
 /// The version of the library's functions that this crate was written for. A library of another one makes no space.
 ///
 /// ```
-/// assert_eq!(masttomato_sys::VERSION, 3);
+/// assert_eq!(masttomato_sys::VERSION, 4);
 /// ```
-pub const VERSION: u32 = 3;
+pub const VERSION: u32 = 4;
 
 /// The version of the functions of the library that is linked; the stand-in's is [`VERSION`].
 ///

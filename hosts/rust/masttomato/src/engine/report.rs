@@ -247,7 +247,8 @@ pub struct SessionReport {
     pub tally: Tally,
     /// Items that were handed to the peer and that it hasn't acknowledged.
     pub unacknowledged: u64,
-    /// What the space itself counts of it: what is pinned for it, what it hasn't acknowledged, and what came and wasn't acted on.
+    /// What the space itself counts of it: what is pinned for it, what it hasn't acknowledged, what came and wasn't acted on,
+    /// and the surrogates of its objects.
     pub of_space: PeerCounts,
     /// Calls and answers that wait for room.
     pub held: u64,
@@ -368,7 +369,7 @@ impl Report {
 
     fn put_sessions(&self, f: &mut fmt::Formatter<'_>) -> fmt::Result {
         type Look = fn(&SessionReport) -> u64;
-        let gauges: [(&str, &str, Look); 11] = [
+        let gauges: [(&str, &str, Look); 12] = [
             ("session_up", "Whether there is a connection and the session is open.", |one| {
                 u64::from(one.session == Session::Open)
             }),
@@ -393,6 +394,9 @@ impl Report {
             }),
             ("session_ready", "Calls of the peer that are to be carried out.", |one| {
                 one.of_space.ready
+            }),
+            ("session_surrogates", "References to the peer's objects.", |one| {
+                one.of_space.surrogates
             }),
         ];
         for (name, help, look) in gauges {

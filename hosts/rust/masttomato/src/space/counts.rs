@@ -66,6 +66,8 @@ pub struct PeerCounts {
     pub waiting: u64,
     /// The jobs of the peer's Calls that are ready and weren't claimed.
     pub ready: u64,
+    /// The surrogates of the peer's objects, on a session that is open here.
+    pub surrogates: u64,
 }
 
 /// What stands at the front of the inbox from a peer: see [`Space::front`](crate::space::Space::front).

@@ -1523,7 +1523,7 @@ impl Space {
     }
 
     /// How much of what the space has is with a peer; nothing where the space is no peer. Linear in the peer's messages
-    /// that wait and its ready jobs.
+    /// that wait, its ready jobs, and the surrogates of the space.
     ///
     /// ```
     /// # use masttomato::space::*;
@@ -1543,6 +1543,7 @@ impl Space {
             inbox: counts.inbox,
             waiting: counts.waiting,
             ready: counts.ready,
+            surrogates: counts.surrogates,
         }
     }
 

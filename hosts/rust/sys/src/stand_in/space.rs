@@ -716,7 +716,8 @@ impl Space {
         let is_from = |message: &&Message| message.peer == peer;
         let waiting = self.messages.values().filter(is_from).count() as u64;
         let ready = self.ready.iter().filter(is_from).count() as u64;
-        PeerCounts { pinned, unacknowledged, inbox, waiting, ready }
+        let surrogates = self.table.surrogates_of(peer);
+        PeerCounts { pinned, unacknowledged, inbox, waiting, ready, surrogates }
     }
 
     pub(super) fn front(&self, peer: u16) -> Front {

@@ -89,6 +89,13 @@ impl Table {
         self.surrogates as u64
     }
 
+    /// How many surrogates there are of one owner's objects.
+    pub(super) fn surrogates_of(&self, owner: u16) -> u64 {
+        let is_surrogate =
+            |(one, other): &(&Reference, &Other)| one.owner == owner && other.standing.is_some();
+        self.others.iter().filter(is_surrogate).count() as u64
+    }
+
     pub(super) fn was_exported(&self, index: u64) -> bool {
         (1..=self.exported).contains(&index)
     }
