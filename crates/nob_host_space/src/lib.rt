@@ -19,7 +19,7 @@ mod told;
 mod waiting;
 
 pub use births::birth_of;
-pub use counts::Front;
+pub use counts::{Front, counts_of_no_space, counts_of_no_peer};
 pub use handle::Handle;
 pub use host::Host;
 pub use looks::{Tally, Work};
