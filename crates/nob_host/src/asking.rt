@@ -14,7 +14,7 @@ ghost use Rattle.nob_host_space.specs.Kept.{Through};
 ghost use Rattle.nob_host_space.specs.Numbers.{is_wanted};
 ghost use Rattle.nob_host_space.specs.Asked.{HostAsked, AskedBy, CameBy, SaysEmpty, Unasked, reference, right_of, answer_after};
 
-use nob_host_space::{Handle, Told};
+use nob_host_space::{Handle, KEEPS_NONE, Told};
 use nob_model_types::Event;
 use std::alloc::Global;
 
@@ -28,7 +28,7 @@ pub extern "C" fn nob_export(handle: &mut Handle, alloc: Global, told: &mut Told
 {
     let Some(mut host) = handle.take(alloc) else {
         *told = Told::nothing();
-        return 65;
+        return KEEPS_NONE;
     };
     let status = host.ask(&Event::Export, told);
     handle.put(host);
@@ -53,7 +53,7 @@ pub extern "C" fn nob_dup(
 {
     let Some(mut host) = handle.take(alloc) else {
         *told = Told::nothing();
-        return 65;
+        return KEEPS_NONE;
     };
     let status = host.dup(owner, index, told);
     handle.put(host);
@@ -78,7 +78,7 @@ pub extern "C" fn nob_release(
 {
     let Some(mut host) = handle.take(alloc) else {
         *told = Told::nothing();
-        return 65;
+        return KEEPS_NONE;
     };
     let status = host.release(owner, index, told);
     handle.put(host);
@@ -106,7 +106,7 @@ pub extern "C" fn nob_call(
 {
     let Some(mut host) = handle.take(alloc) else {
         *told = Told::nothing();
-        return 65;
+        return KEEPS_NONE;
     };
     let status = host.call(alloc, owner, index, method, pickle, told);
     handle.put(host);
@@ -128,7 +128,7 @@ pub extern "C" fn nob_take_reply(
 {
     let Some(mut host) = handle.take(alloc) else {
         *told = Told::nothing();
-        return 65;
+        return KEEPS_NONE;
     };
     let status = host.take_reply(call, told);
     handle.put(host);
@@ -145,7 +145,7 @@ pub extern "C" fn nob_claim(handle: &mut Handle, alloc: Global, told: &mut Told)
 {
     let Some(mut host) = handle.take(alloc) else {
         *told = Told::nothing();
-        return 65;
+        return KEEPS_NONE;
     };
     let status = host.ask(&Event::Claim, told);
     handle.put(host);
@@ -177,7 +177,7 @@ pub extern "C" fn nob_finish(
 {
     let Some(mut host) = handle.take(alloc) else {
         *told = Told::nothing();
-        return 65;
+        return KEEPS_NONE;
     };
     let status = host.finish(alloc, job, outcome, pickle, told);
     handle.put(host);
@@ -196,7 +196,7 @@ pub extern "C" fn nob_act(handle: &mut Handle, alloc: Global, peer: u16, told: &
 {
     let Some(mut host) = handle.take(alloc) else {
         *told = Told::nothing();
-        return 65;
+        return KEEPS_NONE;
     };
     let status = host.act(peer, told);
     handle.put(host);
@@ -213,7 +213,7 @@ pub extern "C" fn nob_settle(handle: &mut Handle, alloc: Global, told: &mut Told
 {
     let Some(mut host) = handle.take(alloc) else {
         *told = Told::nothing();
-        return 65;
+        return KEEPS_NONE;
     };
     let status = host.ask(&Event::Settle, told);
     handle.put(host);
@@ -230,7 +230,7 @@ pub extern "C" fn nob_clean(handle: &mut Handle, alloc: Global, told: &mut Told)
 {
     let Some(mut host) = handle.take(alloc) else {
         *told = Told::nothing();
-        return 65;
+        return KEEPS_NONE;
     };
     let status = host.ask(&Event::Clean, told);
     handle.put(host);
@@ -252,7 +252,7 @@ pub extern "C" fn nob_withdraw(
 {
     let Some(mut host) = handle.take(alloc) else {
         *told = Told::nothing();
-        return 65;
+        return KEEPS_NONE;
     };
     let status = host.withdraw(index, told);
     handle.put(host);
@@ -278,7 +278,7 @@ pub extern "C" fn nob_transmit(
 {
     let Some(mut host) = handle.take(alloc) else {
         *told = Told::nothing();
-        return 65;
+        return KEEPS_NONE;
     };
     let status = host.transmit(alloc, peer, told);
     handle.put(host);
@@ -299,7 +299,7 @@ pub extern "C" fn nob_arrive(
 {
     let Some(mut host) = handle.take(alloc) else {
         *told = Told::nothing();
-        return 65;
+        return KEEPS_NONE;
     };
     let status = host.arrive(alloc, frame, told);
     handle.put(host);
@@ -318,7 +318,7 @@ pub extern "C" fn nob_tick(handle: &mut Handle, alloc: Global, peer: u16, told: 
 {
     let Some(mut host) = handle.take(alloc) else {
         *told = Told::nothing();
-        return 65;
+        return KEEPS_NONE;
     };
     let status = host.tick(peer, told);
     handle.put(host);
@@ -337,7 +337,7 @@ pub extern "C" fn nob_close(handle: &mut Handle, alloc: Global, peer: u16, told:
 {
     let Some(mut host) = handle.take(alloc) else {
         *told = Told::nothing();
-        return 65;
+        return KEEPS_NONE;
     };
     let status = host.close(peer, told);
     handle.put(host);
@@ -356,7 +356,7 @@ pub extern "C" fn nob_open(handle: &mut Handle, alloc: Global, peer: u16, told: 
 {
     let Some(mut host) = handle.take(alloc) else {
         *told = Told::nothing();
-        return 65;
+        return KEEPS_NONE;
     };
     let status = host.open(peer, told);
     handle.put(host);

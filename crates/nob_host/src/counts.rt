@@ -10,7 +10,9 @@ ghost use Rattle.nob_host_space.specs.Counts as counts;
 ghost use Rattle.nob_host_space.specs.Kept.{Through};
 ghost use Rattle.nob_host_space.specs.Looks.{or_zero, past_of};
 
-use nob_host_space::{Front, Handle, PeerCounts, SpaceCounts, counts_of_no_space, counts_of_no_peer};
+use nob_host_space::{
+    Front, Handle, PeerCounts, SpaceCounts, counts_of_no_peer, counts_of_no_space,
+};
 use std::alloc::Global;
 
 /// The version of these functions: it rises whenever a function, a struct or a status changes. A

@@ -5,7 +5,7 @@ ghost use Rattle.nob_host_space.specs.Kept.{HasSome};
 ghost use Rattle.nob_host_space.specs.Asked.{AreNumbers, IsNew};
 ghost use Rattle.nob_host_space.specs.Births.{AreBirthNumbers, IsBegun, RefusesBirth, birth_with};
 
-use nob_host_space::{Handle, Host, birth_of};
+use nob_host_space::{Handle, Host, KEEPS_ONE, OUT_OF_RANGE, WANTED, birth_of};
 use std::alloc::Global;
 
 /// Makes a space, which the handle keeps: the status. 60 where a number is outside its range, 14
@@ -30,7 +30,7 @@ pub extern "C" fn nob_new(
 {
     if let Some(host) = handle.take(alloc) {
         handle.put(host);
-        return 67;
+        return KEEPS_ONE;
     }
     match Host::new(alloc, id, n, window, retry) {
         Ok(host) => match Box::new(alloc, host) {
@@ -38,7 +38,7 @@ pub extern "C" fn nob_new(
                 handle.put(host);
                 0
             }
-            Err(_) => 14,
+            Err(_) => WANTED,
         },
         Err(status) => status,
     }
@@ -78,10 +78,10 @@ pub extern "C" fn nob_begin_at(
 {
     if let Some(host) = handle.take(alloc) {
         handle.put(host);
-        return 67;
+        return KEEPS_ONE;
     }
     if n > 32 || sessions.len() != n as usize {
-        return 60;
+        return OUT_OF_RANGE;
     }
     let birth = birth_of(indexes, calls, jobs, sessions);
     match Host::begin_at(alloc, id, n, window, retry, &birth) {
@@ -90,7 +90,7 @@ pub extern "C" fn nob_begin_at(
                 handle.put(begun);
                 0
             }
-            Err(_) => 14,
+            Err(_) => WANTED,
         },
         Err(status) => status,
     }

@@ -11,7 +11,7 @@ ghost use Rattle.nob_host_space.specs.Numbers.{is_done, is_wanted};
 ghost use Rattle.nob_host_space.specs.Asked.{Pickles, SameStreams, SaysEmpty, Unasked};
 ghost use Rattle.nob_host_space.specs.Streams.{Pushed, BroughtOrWants};
 
-use nob_host_space::{Handle, Told};
+use nob_host_space::{Handle, KEEPS_NONE, Told};
 use std::alloc::Global;
 
 /// The next piece of the stream from a peer: the frames that are whole now wait, each of them from
@@ -41,7 +41,7 @@ pub extern "C" fn nob_push(
 {
     let Some(mut host) = handle.take(alloc) else {
         *told = Told::nothing();
-        return 65;
+        return KEEPS_NONE;
     };
     let status = host.push(peer, piece, told);
     handle.put(host);
@@ -60,7 +60,7 @@ pub extern "C" fn nob_next(handle: &mut Handle, alloc: Global, told: &mut Told) 
 {
     let Some(mut host) = handle.take(alloc) else {
         *told = Told::nothing();
-        return 65;
+        return KEEPS_NONE;
     };
     let status = host.next(alloc, told);
     handle.put(host);
@@ -84,7 +84,7 @@ pub extern "C" fn nob_restart(handle: &mut Handle, alloc: Global, peer: u16) -> 
     ensures empty { handle.old.held ≡ None → (handle.new.held ≡ None) × (result ≡ 65) }
 {
     let Some(mut host) = handle.take(alloc) else {
-        return 65;
+        return KEEPS_NONE;
     };
     let status = host.restart(alloc, peer);
     handle.put(host);
@@ -105,7 +105,7 @@ pub extern "C" fn nob_value(handle: &mut Handle, alloc: Global) -> u32
     ensures empty { handle.old.held ≡ None → (handle.new.held ≡ None) × (result ≡ 65) }
 {
     let Some(mut host) = handle.take(alloc) else {
-        return 65;
+        return KEEPS_NONE;
     };
     let status = host.pickle(alloc);
     handle.put(host);
