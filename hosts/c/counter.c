@@ -73,5 +73,6 @@ int main(void) {
   printf("once it is given back: status %u\n", (unsigned)nob_withdraw(&owner, counter, &told));
   nob_end(&owner);
   nob_end(&caller);
+  printf("once it has ended: status %u\n", (unsigned)nob_withdraw(&owner, counter, &told));
   return nob_keeps(&owner) || nob_keeps(&caller);
 }

@@ -6,10 +6,9 @@
  *
  * What a caller owes, and nothing checks:
  * - Where nob_version isn't NOB_VERSION, this header isn't the library's: nothing else of it is called.
- * - A handle begins as NOB_EMPTY. nob_new and nob_begin_at are called on one that keeps nothing, every other
- *   function on one that keeps a space, and none but these two after nob_end. A handle is never copied.
- *   No function answers another one by a status: NULL, a handle that keeps nothing and a copy of one that was
- *   ended are undefined. nob_keeps tells the first two; nothing tells the third from one that keeps a space.
+ * - A handle begins as NOB_EMPTY, and keeps nothing; so it does after nob_end. Each function says so of it:
+ *   NOB_KEEPS_NONE, or 0, false or nothing. A handle is never copied: a copy of one that was ended is undefined, and
+ *   nothing tells it from one that keeps a space. So are a handle's place, and one to write to, that are NULL.
  * - What nob_begin_at begins behind covers all that the life before it gave, heard and used (docs/LIVES.md).
  * - One call at a time for each handle, all on the thread that made it.
  * - A pointer with a length is one slice that nothing else writes during the call. It isn't NULL, also
@@ -120,6 +119,8 @@ enum {
   NOB_NO_FRAME = 62,
   NOB_NO_VALUE = 63,
   NOB_OF_OTHERS = 64, /* a frame in the piece isn't from the peer to this space (nob_push) */
+  NOB_KEEPS_NONE = 65, /* the handle keeps no space */
+  NOB_KEEPS_ONE = 67, /* the handle keeps a space already (nob_new, nob_begin_at) */
   NOB_INDEXES_TOO_MANY = 71, /* 71 to 75: the space can't begin so (nob_begin_at) */
   NOB_CALLS_TOO_MANY = 72,
   NOB_JOBS_TOO_MANY = 73,
@@ -179,7 +180,7 @@ uint32_t nob_new(NobHandle *handle, uint16_t id, uint16_t n, uint64_t window, ui
 /* The same for a space that comes back under its number: behind so many indexes, calls and jobs, and with the session with
  * space p in the number at place p - 1 of sessions. There are n of these; that at the own place isn't read. */
 uint32_t nob_begin_at(NobHandle *handle, uint16_t id, uint16_t n, uint64_t window, uint64_t retry, uint64_t indexes, uint64_t calls, uint64_t jobs, const uint32_t *sessions, size_t count);
-/* Ends it and gives its memory back. */
+/* Ends it, if there is one, and gives its memory back. */
 void nob_end(NobHandle *handle);
 
 /* What a space is asked (docs/SPACE.md). */

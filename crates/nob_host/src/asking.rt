@@ -1,7 +1,7 @@
 //! What a space is asked: the status, and what is told of its answer. The README says what the
 //! numbers mean.
 
-ghost use Rattle.std.specs.Prelude.{◌≡◌, ◌≤◌, List, IsSome};
+ghost use Rattle.std.specs.Prelude.{◌≡◌, ◌≤◌, List};
 ghost use Rattle.nob_ids.specs.Names.{IsSpace};
 ghost use Rattle.nob_pickle.specs.Reading.{value_read};
 ghost use Rattle.nob_frame.specs.declared.version.Version.TheVariants.{Two};
@@ -12,21 +12,24 @@ ghost use Rattle.nob_model_types.specs.declared.event.Outcome.TheVariants as out
 ghost use Rattle.nob_space.specs.Spaces.{StandsFor};
 ghost use Rattle.nob_host_space.specs.Kept.{Through};
 ghost use Rattle.nob_host_space.specs.Numbers.{is_wanted};
-ghost use Rattle.nob_host_space.specs.Asked.{HostAsked, AskedBy, CameBy, Unasked, reference, right_of, answer_after};
+ghost use Rattle.nob_host_space.specs.Asked.{HostAsked, AskedBy, CameBy, SaysEmpty, Unasked, reference, right_of, answer_after};
 
-use nob_host_space::{Handle, Told};
+use nob_host_space::{Handle, KEEPS_NONE, Told};
 use nob_model_types::Event;
 use std::alloc::Global;
 
 /// Export: a new object, once in the hand.
 #[unsafe(no_mangle)]
 pub extern "C" fn nob_export(handle: &mut Handle, alloc: Global, told: &mut Told) -> u32
-    requires { IsSome handle.old.held }
     ensures asked { Through handle.old.held handle.new.held (λ old new. HostAsked old
         events.Export new told.new result) }
     ensures answer { Through handle.old.held handle.new.held (λ old new. new.answer ≡ old.answer) }
+    ensures empty { SaysEmpty handle.old.held handle.new.held told.new result }
 {
-    let mut host = handle.take(alloc);
+    let Some(mut host) = handle.take(alloc) else {
+        *told = Told::nothing();
+        return KEEPS_NONE;
+    };
     let status = host.ask(&Event::Export, told);
     handle.put(host);
     status
@@ -41,14 +44,17 @@ pub extern "C" fn nob_dup(
     index: u64,
     told: &mut Told,
 ) -> u32
-    requires { IsSome handle.old.held }
     ensures asked { IsSpace owner → Through handle.old.held handle.new.held (λ old new. HostAsked
         old (events.Dup (reference owner index)) new told.new result) }
     ensures answer { Through handle.old.held handle.new.held (λ old new. new.answer ≡ old.answer) }
     ensures range { (IsSpace owner → ⊥) → Through handle.old.held handle.new.held (λ old new.
         Unasked old new told.new result 60) }
+    ensures empty { SaysEmpty handle.old.held handle.new.held told.new result }
 {
-    let mut host = handle.take(alloc);
+    let Some(mut host) = handle.take(alloc) else {
+        *told = Told::nothing();
+        return KEEPS_NONE;
+    };
     let status = host.dup(owner, index, told);
     handle.put(host);
     status
@@ -63,14 +69,17 @@ pub extern "C" fn nob_release(
     index: u64,
     told: &mut Told,
 ) -> u32
-    requires { IsSome handle.old.held }
     ensures asked { IsSpace owner → Through handle.old.held handle.new.held (λ old new. HostAsked
         old (events.Release (reference owner index)) new told.new result) }
     ensures answer { Through handle.old.held handle.new.held (λ old new. new.answer ≡ old.answer) }
     ensures range { (IsSpace owner → ⊥) → Through handle.old.held handle.new.held (λ old new.
         Unasked old new told.new result 60) }
+    ensures empty { SaysEmpty handle.old.held handle.new.held told.new result }
 {
-    let mut host = handle.take(alloc);
+    let Some(mut host) = handle.take(alloc) else {
+        *told = Told::nothing();
+        return KEEPS_NONE;
+    };
     let status = host.release(owner, index, told);
     handle.put(host);
     status
@@ -87,15 +96,18 @@ pub extern "C" fn nob_call(
     pickle: &[u8],
     told: &mut Told,
 ) -> u32
-    requires { IsSome handle.old.held }
     ensures asked { IsSpace owner → Through handle.old.held handle.new.held (λ old new. AskedBy
         (value_read pickle.now) (λ value. events.Call (reference owner index) method value) old new
         told.new result) }
     ensures answer { Through handle.old.held handle.new.held (λ old new. new.answer ≡ old.answer) }
     ensures range { (IsSpace owner → ⊥) → Through handle.old.held handle.new.held (λ old new.
         Unasked old new told.new result 60) }
+    ensures empty { SaysEmpty handle.old.held handle.new.held told.new result }
 {
-    let mut host = handle.take(alloc);
+    let Some(mut host) = handle.take(alloc) else {
+        *told = Told::nothing();
+        return KEEPS_NONE;
+    };
     let status = host.call(alloc, owner, index, method, pickle, told);
     handle.put(host);
     status
@@ -109,12 +121,15 @@ pub extern "C" fn nob_take_reply(
     call: u64,
     told: &mut Told,
 ) -> u32
-    requires { IsSome handle.old.held }
     ensures asked { Through handle.old.held handle.new.held (λ old new. HostAsked old
         (events.TakeReply call) new told.new result) }
     ensures answer { Through handle.old.held handle.new.held (λ old new. new.answer ≡ old.answer) }
+    ensures empty { SaysEmpty handle.old.held handle.new.held told.new result }
 {
-    let mut host = handle.take(alloc);
+    let Some(mut host) = handle.take(alloc) else {
+        *told = Told::nothing();
+        return KEEPS_NONE;
+    };
     let status = host.take_reply(call, told);
     handle.put(host);
     status
@@ -123,12 +138,15 @@ pub extern "C" fn nob_take_reply(
 /// Claim: a job; its argument is kept.
 #[unsafe(no_mangle)]
 pub extern "C" fn nob_claim(handle: &mut Handle, alloc: Global, told: &mut Told) -> u32
-    requires { IsSome handle.old.held }
     ensures asked { Through handle.old.held handle.new.held (λ old new. HostAsked old events.Claim
         new told.new result) }
     ensures answer { Through handle.old.held handle.new.held (λ old new. new.answer ≡ old.answer) }
+    ensures empty { SaysEmpty handle.old.held handle.new.held told.new result }
 {
-    let mut host = handle.take(alloc);
+    let Some(mut host) = handle.take(alloc) else {
+        *told = Told::nothing();
+        return KEEPS_NONE;
+    };
     let status = host.ask(&Event::Claim, told);
     handle.put(host);
     status
@@ -144,7 +162,6 @@ pub extern "C" fn nob_finish(
     pickle: &[u8],
     told: &mut Told,
 ) -> u32
-    requires { IsSome handle.old.held }
     ensures answered { outcome ≡ 0 → Through handle.old.held handle.new.held (λ old new. AskedBy
         (value_read pickle.now) (λ value. events.Finish job (outcomes.Answer value)) old new
         told.new result) }
@@ -156,8 +173,12 @@ pub extern "C" fn nob_finish(
     ensures range { 3 ≤ outcome → Through handle.old.held handle.new.held (λ old new. Unasked old
         new told.new result 60) }
     ensures answer { Through handle.old.held handle.new.held (λ old new. new.answer ≡ old.answer) }
+    ensures empty { SaysEmpty handle.old.held handle.new.held told.new result }
 {
-    let mut host = handle.take(alloc);
+    let Some(mut host) = handle.take(alloc) else {
+        *told = Told::nothing();
+        return KEEPS_NONE;
+    };
     let status = host.finish(alloc, job, outcome, pickle, told);
     handle.put(host);
     status
@@ -166,14 +187,17 @@ pub extern "C" fn nob_finish(
 /// Act on the next item of a peer.
 #[unsafe(no_mangle)]
 pub extern "C" fn nob_act(handle: &mut Handle, alloc: Global, peer: u16, told: &mut Told) -> u32
-    requires { IsSome handle.old.held }
     ensures asked { IsSpace peer → Through handle.old.held handle.new.held (λ old new. HostAsked old
         (events.Act peer) new told.new result) }
     ensures answer { Through handle.old.held handle.new.held (λ old new. new.answer ≡ old.answer) }
     ensures range { (IsSpace peer → ⊥) → Through handle.old.held handle.new.held (λ old new. Unasked
         old new told.new result 60) }
+    ensures empty { SaysEmpty handle.old.held handle.new.held told.new result }
 {
-    let mut host = handle.take(alloc);
+    let Some(mut host) = handle.take(alloc) else {
+        *told = Told::nothing();
+        return KEEPS_NONE;
+    };
     let status = host.act(peer, told);
     handle.put(host);
     status
@@ -182,12 +206,15 @@ pub extern "C" fn nob_act(handle: &mut Handle, alloc: Global, peer: u16, told: &
 /// Settle: a message whose references are all resolved.
 #[unsafe(no_mangle)]
 pub extern "C" fn nob_settle(handle: &mut Handle, alloc: Global, told: &mut Told) -> u32
-    requires { IsSome handle.old.held }
     ensures asked { Through handle.old.held handle.new.held (λ old new. HostAsked old
         events.Settle new told.new result) }
     ensures answer { Through handle.old.held handle.new.held (λ old new. new.answer ≡ old.answer) }
+    ensures empty { SaysEmpty handle.old.held handle.new.held told.new result }
 {
-    let mut host = handle.take(alloc);
+    let Some(mut host) = handle.take(alloc) else {
+        *told = Told::nothing();
+        return KEEPS_NONE;
+    };
     let status = host.ask(&Event::Settle, told);
     handle.put(host);
     status
@@ -196,12 +223,15 @@ pub extern "C" fn nob_settle(handle: &mut Handle, alloc: Global, told: &mut Told
 /// Clean: a surrogate that nothing uses is given up.
 #[unsafe(no_mangle)]
 pub extern "C" fn nob_clean(handle: &mut Handle, alloc: Global, told: &mut Told) -> u32
-    requires { IsSome handle.old.held }
     ensures asked { Through handle.old.held handle.new.held (λ old new. HostAsked old events.Clean
         new told.new result) }
     ensures answer { Through handle.old.held handle.new.held (λ old new. new.answer ≡ old.answer) }
+    ensures empty { SaysEmpty handle.old.held handle.new.held told.new result }
 {
-    let mut host = handle.take(alloc);
+    let Some(mut host) = handle.take(alloc) else {
+        *told = Told::nothing();
+        return KEEPS_NONE;
+    };
     let status = host.ask(&Event::Clean, told);
     handle.put(host);
     status
@@ -215,12 +245,15 @@ pub extern "C" fn nob_withdraw(
     index: u64,
     told: &mut Told,
 ) -> u32
-    requires { IsSome handle.old.held }
     ensures asked { Through handle.old.held handle.new.held (λ old new. HostAsked old
         (events.Withdraw index) new told.new result) }
     ensures answer { Through handle.old.held handle.new.held (λ old new. new.answer ≡ old.answer) }
+    ensures empty { SaysEmpty handle.old.held handle.new.held told.new result }
 {
-    let mut host = handle.take(alloc);
+    let Some(mut host) = handle.take(alloc) else {
+        *told = Told::nothing();
+        return KEEPS_NONE;
+    };
     let status = host.withdraw(index, told);
     handle.put(host);
     status
@@ -234,7 +267,6 @@ pub extern "C" fn nob_transmit(
     peer: u16,
     told: &mut Told,
 ) -> u32
-    requires { IsSome handle.old.held }
     ensures asked { IsSpace peer → Through handle.old.held handle.new.held (λ old new. HostAsked old
         (events.Transmit peer) new told.new result) }
     ensures answer { IsSpace peer → Through handle.old.held handle.new.held (λ old new. (L : List
@@ -242,8 +274,12 @@ pub extern "C" fn nob_transmit(
         old.space L (events.Transmit peer)) old.answer) }
     ensures range { (IsSpace peer → ⊥) → Through handle.old.held handle.new.held (λ old new. Unasked
         old new told.new result 60) }
+    ensures empty { SaysEmpty handle.old.held handle.new.held told.new result }
 {
-    let mut host = handle.take(alloc);
+    let Some(mut host) = handle.take(alloc) else {
+        *told = Told::nothing();
+        return KEEPS_NONE;
+    };
     let status = host.transmit(alloc, peer, told);
     handle.put(host);
     status
@@ -257,11 +293,14 @@ pub extern "C" fn nob_arrive(
     frame: &[u8],
     told: &mut Told,
 ) -> u32
-    requires { IsSome handle.old.held }
     ensures came { Through handle.old.held handle.new.held (λ old new. CameBy
         (frame_at Two frame.now) old new told.new result) }
+    ensures empty { SaysEmpty handle.old.held handle.new.held told.new result }
 {
-    let mut host = handle.take(alloc);
+    let Some(mut host) = handle.take(alloc) else {
+        *told = Told::nothing();
+        return KEEPS_NONE;
+    };
     let status = host.arrive(alloc, frame, told);
     handle.put(host);
     status
@@ -270,14 +309,17 @@ pub extern "C" fn nob_arrive(
 /// Tick: the session with a peer counts one more.
 #[unsafe(no_mangle)]
 pub extern "C" fn nob_tick(handle: &mut Handle, alloc: Global, peer: u16, told: &mut Told) -> u32
-    requires { IsSome handle.old.held }
     ensures asked { IsSpace peer → Through handle.old.held handle.new.held (λ old new. HostAsked old
         (events.Tick peer) new told.new result) }
     ensures answer { Through handle.old.held handle.new.held (λ old new. new.answer ≡ old.answer) }
     ensures range { (IsSpace peer → ⊥) → Through handle.old.held handle.new.held (λ old new. Unasked
         old new told.new result 60) }
+    ensures empty { SaysEmpty handle.old.held handle.new.held told.new result }
 {
-    let mut host = handle.take(alloc);
+    let Some(mut host) = handle.take(alloc) else {
+        *told = Told::nothing();
+        return KEEPS_NONE;
+    };
     let status = host.tick(peer, told);
     handle.put(host);
     status
@@ -286,14 +328,17 @@ pub extern "C" fn nob_tick(handle: &mut Handle, alloc: Global, peer: u16, told: 
 /// Close: the session with a peer closes here.
 #[unsafe(no_mangle)]
 pub extern "C" fn nob_close(handle: &mut Handle, alloc: Global, peer: u16, told: &mut Told) -> u32
-    requires { IsSome handle.old.held }
     ensures asked { IsSpace peer → Through handle.old.held handle.new.held (λ old new. HostAsked old
         (events.Close peer) new told.new result) }
     ensures answer { Through handle.old.held handle.new.held (λ old new. new.answer ≡ old.answer) }
     ensures range { (IsSpace peer → ⊥) → Through handle.old.held handle.new.held (λ old new. Unasked
         old new told.new result 60) }
+    ensures empty { SaysEmpty handle.old.held handle.new.held told.new result }
 {
-    let mut host = handle.take(alloc);
+    let Some(mut host) = handle.take(alloc) else {
+        *told = Told::nothing();
+        return KEEPS_NONE;
+    };
     let status = host.close(peer, told);
     handle.put(host);
     status
@@ -302,14 +347,17 @@ pub extern "C" fn nob_close(handle: &mut Handle, alloc: Global, peer: u16, told:
 /// Open: the session with a peer, which closed here, opens anew.
 #[unsafe(no_mangle)]
 pub extern "C" fn nob_open(handle: &mut Handle, alloc: Global, peer: u16, told: &mut Told) -> u32
-    requires { IsSome handle.old.held }
     ensures asked { IsSpace peer → Through handle.old.held handle.new.held (λ old new. HostAsked old
         (events.Open peer) new told.new result) }
     ensures answer { Through handle.old.held handle.new.held (λ old new. new.answer ≡ old.answer) }
     ensures range { (IsSpace peer → ⊥) → Through handle.old.held handle.new.held (λ old new. Unasked
         old new told.new result 60) }
+    ensures empty { SaysEmpty handle.old.held handle.new.held told.new result }
 {
-    let mut host = handle.take(alloc);
+    let Some(mut host) = handle.take(alloc) else {
+        *told = Told::nothing();
+        return KEEPS_NONE;
+    };
     let status = host.open(peer, told);
     handle.put(host);
     status

@@ -1,6 +1,6 @@
 //! What a space has, and what came from a peer.
 
-ghost use Rattle.std.specs.Prelude.{◌≡◌, List, true, false, IsSome};
+ghost use Rattle.std.specs.Prelude.{◌≡◌, List, true, false, None};
 ghost use Rattle.nob_ids.specs.Names.{IsSpace};
 ghost use Rattle.nob_model_types.specs.declared.entry.Entry.{Entry};
 ghost use Rattle.nob_model_types.specs.Sessions.{is_peer};
@@ -10,7 +10,9 @@ ghost use Rattle.nob_host_space.specs.Counts as counts;
 ghost use Rattle.nob_host_space.specs.Kept.{Through};
 ghost use Rattle.nob_host_space.specs.Looks.{or_zero, past_of};
 
-use nob_host_space::{Front, Handle, PeerCounts, SpaceCounts};
+use nob_host_space::{
+    Front, Handle, PeerCounts, SpaceCounts, counts_of_no_peer, counts_of_no_space,
+};
 use std::alloc::Global;
 
 /// The version of these functions: it rises whenever a function, a struct or a status changes. A
@@ -25,13 +27,17 @@ pub extern "C" fn nob_version() -> u32
 /// How much the space has: objects, surrogates, calls and messages.
 #[unsafe(no_mangle)]
 pub extern "C" fn nob_counts(handle: &mut Handle, alloc: Global, counted: &mut SpaceCounts)
-    requires { IsSome handle.old.held }
     ensures counts { Through handle.old.held handle.new.held (λ old new. (L : List Entry)
         → StandsFor old.space L → counted.new ≡ words.counts old.space.id old.space.n
         (past_of old.space L)) }
     ensures same { Through handle.old.held handle.new.held (λ old new. new ≡ old) }
+    ensures empty { handle.old.held ≡ None → (handle.new.held ≡ None)
+        × (counted.new ≡ counts.no_space_counts) }
 {
-    let host = handle.take(alloc);
+    let Some(host) = handle.take(alloc) else {
+        *counted = counts_of_no_space();
+        return;
+    };
     *counted = host.counts();
     handle.put(host);
 }
@@ -45,7 +51,6 @@ pub extern "C" fn nob_peer_counts(
     peer: u16,
     counted: &mut PeerCounts,
 )
-    requires { IsSome handle.old.held }
     ensures counts { IsSpace peer → Through handle.old.held handle.new.held (λ old new. is_peer
         old.space.id old.space.n peer ≡ true → (L : List Entry) → StandsFor old.space L
         → counted.new ≡ words.peer_counts old.space.id old.space.n peer (past_of old.space L)) }
@@ -53,8 +58,13 @@ pub extern "C" fn nob_peer_counts(
         old.space.n peer ≡ false → counted.new ≡ counts.no_counts) }
     ensures range { (IsSpace peer → ⊥) → counted.new ≡ counts.no_counts }
     ensures same { Through handle.old.held handle.new.held (λ old new. new ≡ old) }
+    ensures empty { handle.old.held ≡ None → (handle.new.held ≡ None)
+        × (counted.new ≡ counts.no_counts) }
 {
-    let host = handle.take(alloc);
+    let Some(host) = handle.take(alloc) else {
+        *counted = counts_of_no_peer();
+        return;
+    };
     *counted = host.peer_counts(peer);
     handle.put(host);
 }
@@ -63,14 +73,18 @@ pub extern "C" fn nob_peer_counts(
 /// has closed here, or nothing waits.
 #[unsafe(no_mangle)]
 pub extern "C" fn nob_front(handle: &mut Handle, alloc: Global, peer: u16, front: &mut Front)
-    requires { IsSome handle.old.held }
     ensures front { IsSpace peer → Through handle.old.held handle.new.held (λ old new.
         (L : List Entry) → StandsFor old.space L → front.new ≡ counts.shown
         (words.front old.space.id old.space.n peer (past_of old.space L))) }
     ensures range { (IsSpace peer → ⊥) → front.new ≡ counts.no_front }
     ensures same { Through handle.old.held handle.new.held (λ old new. new ≡ old) }
+    ensures empty { handle.old.held ≡ None → (handle.new.held ≡ None)
+        × (front.new ≡ counts.no_front) }
 {
-    let host = handle.take(alloc);
+    let Some(host) = handle.take(alloc) else {
+        *front = Front::nothing();
+        return;
+    };
     *front = host.front(peer);
     handle.put(host);
 }
@@ -79,12 +93,14 @@ pub extern "C" fn nob_front(handle: &mut Handle, alloc: Global, peer: u16, front
 /// none is ready. It says nothing of the calls that a close ended.
 #[unsafe(no_mangle)]
 pub extern "C" fn nob_next_reply(handle: &mut Handle, alloc: Global) -> u64
-    requires { IsSome handle.old.held }
     ensures next { Through handle.old.held handle.new.held (λ old new. (L : List Entry)
         → StandsFor old.space L → result ≡ or_zero (words.next_reply (past_of old.space L))) }
     ensures same { Through handle.old.held handle.new.held (λ old new. new ≡ old) }
+    ensures empty { handle.old.held ≡ None → (handle.new.held ≡ None) × (result ≡ 0) }
 {
-    let host = handle.take(alloc);
+    let Some(host) = handle.take(alloc) else {
+        return 0;
+    };
     let call = host.next_reply();
     handle.put(host);
     call

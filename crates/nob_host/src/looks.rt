@@ -1,6 +1,6 @@
 //! What can be seen of a space.
 
-ghost use Rattle.std.specs.Prelude.{◌≡◌, ◌≤◌, ◌-◌, ℕ, List, true, false, IsSome, is_some};
+ghost use Rattle.std.specs.Prelude.{◌≡◌, ◌≤◌, ◌-◌, ℕ, List, true, false, None, is_some};
 ghost use Rattle.std.specs.Int.{bit_at};
 ghost use Rattle.nob_ids.specs.Names.{IsSpace};
 ghost use Rattle.nob_model_types.specs.declared.entry.Entry.{Entry};
@@ -23,11 +23,13 @@ use std::alloc::Global;
 /// The number of the space.
 #[unsafe(no_mangle)]
 pub extern "C" fn nob_id(handle: &mut Handle, alloc: Global) -> u16
-    requires { IsSome handle.old.held }
     ensures id { Through handle.old.held handle.new.held (λ old new. result ≡ old.space.id) }
     ensures same { Through handle.old.held handle.new.held (λ old new. new ≡ old) }
+    ensures empty { handle.old.held ≡ None → (handle.new.held ≡ None) × (result ≡ 0) }
 {
-    let host = handle.take(alloc);
+    let Some(host) = handle.take(alloc) else {
+        return 0;
+    };
     let id = host.id();
     handle.put(host);
     id
@@ -36,11 +38,13 @@ pub extern "C" fn nob_id(handle: &mut Handle, alloc: Global) -> u16
 /// How many spaces there are.
 #[unsafe(no_mangle)]
 pub extern "C" fn nob_n(handle: &mut Handle, alloc: Global) -> u16
-    requires { IsSome handle.old.held }
     ensures n { Through handle.old.held handle.new.held (λ old new. result ≡ old.space.n) }
     ensures same { Through handle.old.held handle.new.held (λ old new. new ≡ old) }
+    ensures empty { handle.old.held ≡ None → (handle.new.held ≡ None) × (result ≡ 0) }
 {
-    let host = handle.take(alloc);
+    let Some(host) = handle.take(alloc) else {
+        return 0;
+    };
     let n = host.n();
     handle.put(host);
     n
@@ -49,13 +53,15 @@ pub extern "C" fn nob_n(handle: &mut Handle, alloc: Global) -> u16
 /// Whether a client is listed for the object of an index.
 #[unsafe(no_mangle)]
 pub extern "C" fn nob_lists(handle: &mut Handle, alloc: Global, index: u64, client: u16) -> bool
-    requires { IsSome handle.old.held }
     ensures listed { IsSpace client → Through handle.old.held handle.new.held (λ old new. (L : List
         Entry) → StandsFor old.space L → result ≡ is_listed old.space.id index client (deeds L)) }
     ensures range { (IsSpace client → ⊥) → result ≡ false }
     ensures same { Through handle.old.held handle.new.held (λ old new. new ≡ old) }
+    ensures empty { handle.old.held ≡ None → (handle.new.held ≡ None) × (result ≡ false) }
 {
-    let host = handle.take(alloc);
+    let Some(host) = handle.take(alloc) else {
+        return false;
+    };
     let lists = host.lists(index, client);
     handle.put(host);
     lists
@@ -64,13 +70,15 @@ pub extern "C" fn nob_lists(handle: &mut Handle, alloc: Global, index: u64, clie
 /// Whether TakeReply of a call would say anything but that the reply isn't ready.
 #[unsafe(no_mangle)]
 pub extern "C" fn nob_reply_ready(handle: &mut Handle, alloc: Global, call: u64) -> bool
-    requires { IsSome handle.old.held }
     ensures ready { Through handle.old.held handle.new.held (λ old new. (L : List Entry)
         → StandsFor old.space L → result ≡ next.reply_ready call (history old.space.id old.space.n
         L)) }
     ensures same { Through handle.old.held handle.new.held (λ old new. new ≡ old) }
+    ensures empty { handle.old.held ≡ None → (handle.new.held ≡ None) × (result ≡ false) }
 {
-    let host = handle.take(alloc);
+    let Some(host) = handle.take(alloc) else {
+        return false;
+    };
     let ready = host.reply_ready(call);
     handle.put(host);
     ready
@@ -80,14 +88,16 @@ pub extern "C" fn nob_reply_ready(handle: &mut Handle, alloc: Global, call: u64)
 /// 3 new ones, 4 the Close that is owed.
 #[unsafe(no_mangle)]
 pub extern "C" fn nob_due(handle: &mut Handle, alloc: Global, peer: u16) -> u32
-    requires { IsSome handle.old.held }
     ensures due { IsSpace peer → Through handle.old.held handle.new.held (λ old new. (L : List
         Entry) → StandsFor old.space L → result ≡ looks.due_number (dues.due old.space.id
         old.space.n peer old.space.limits.window (history old.space.id old.space.n L))) }
     ensures range { (IsSpace peer → ⊥) → result ≡ 0 }
     ensures same { Through handle.old.held handle.new.held (λ old new. new ≡ old) }
+    ensures empty { handle.old.held ≡ None → (handle.new.held ≡ None) × (result ≡ 0) }
 {
-    let host = handle.take(alloc);
+    let Some(host) = handle.take(alloc) else {
+        return 0;
+    };
     let due = host.due(peer);
     handle.put(host);
     due
@@ -96,12 +106,16 @@ pub extern "C" fn nob_due(handle: &mut Handle, alloc: Global, peer: u16) -> u32
 /// What the space could do next.
 #[unsafe(no_mangle)]
 pub extern "C" fn nob_work(handle: &mut Handle, alloc: Global, work: &mut Work)
-    requires { IsSome handle.old.held }
     ensures work { Through handle.old.held handle.new.held
         (λ old new. ShowsWork old.space work.new) }
     ensures same { Through handle.old.held handle.new.held (λ old new. new ≡ old) }
+    ensures empty { handle.old.held ≡ None → (handle.new.held ≡ None)
+        × (work.new ≡ looks.no_work) }
 {
-    let host = handle.take(alloc);
+    let Some(host) = handle.take(alloc) else {
+        *work = Work::nothing();
+        return;
+    };
     *work = host.work();
     handle.put(host);
 }
@@ -110,7 +124,6 @@ pub extern "C" fn nob_work(handle: &mut Handle, alloc: Global, work: &mut Work)
 /// number is no peer's.
 #[unsafe(no_mangle)]
 pub extern "C" fn nob_tally(handle: &mut Handle, alloc: Global, peer: u16, tally: &mut Tally)
-    requires { IsSome handle.old.held }
     ensures tally { IsSpace peer → Through handle.old.held handle.new.held (λ old new. is_peer
         old.space.id old.space.n peer ≡ true → (L : List Entry) → StandsFor old.space L
         → tally.new ≡ looks.tally_in_numbers (tallies.tally peer (looks.past_of old.space L))) }
@@ -118,8 +131,13 @@ pub extern "C" fn nob_tally(handle: &mut Handle, alloc: Global, peer: u16, tally
         old.space.n peer ≡ false → tally.new ≡ looks.tally_of_none) }
     ensures range { (IsSpace peer → ⊥) → tally.new ≡ looks.tally_of_none }
     ensures same { Through handle.old.held handle.new.held (λ old new. new ≡ old) }
+    ensures empty { handle.old.held ≡ None → (handle.new.held ≡ None)
+        × (tally.new ≡ looks.tally_of_none) }
 {
-    let host = handle.take(alloc);
+    let Some(host) = handle.take(alloc) else {
+        *tally = Tally::of_none();
+        return;
+    };
     *tally = host.tally(peer);
     handle.put(host);
 }
@@ -127,13 +145,15 @@ pub extern "C" fn nob_tally(handle: &mut Handle, alloc: Global, peer: u16, tally
 /// How many objects are live.
 #[unsafe(no_mangle)]
 pub extern "C" fn nob_live(handle: &mut Handle, alloc: Global) -> u64
-    requires { IsSome handle.old.held }
     ensures live { Through handle.old.held handle.new.held (λ old new. (L : List Entry)
         → StandsFor old.space L → result ≡ tallies.live_count old.space.id
         (looks.past_of old.space L)) }
     ensures same { Through handle.old.held handle.new.held (λ old new. new ≡ old) }
+    ensures empty { handle.old.held ≡ None → (handle.new.held ≡ None) × (result ≡ 0) }
 {
-    let host = handle.take(alloc);
+    let Some(host) = handle.take(alloc) else {
+        return 0;
+    };
     let live = host.live();
     handle.put(host);
     live

@@ -1,6 +1,6 @@
 //! Streams of frames, and what was answered in bytes.
 
-ghost use Rattle.std.specs.Prelude.{◌≡◌, ◌++◌, [], ◌∷◌, List, Ok, Some, None, IsSome, length, take, drop};
+ghost use Rattle.std.specs.Prelude.{◌≡◌, ◌++◌, [], ◌∷◌, List, Ok, Some, None, length, take, drop};
 ghost use Rattle.nob_ids.specs.Names.{IsSpace};
 ghost use Rattle.nob_pickle.specs.declared.value.Value.{Value as ValueOf};
 ghost use Rattle.nob_pickle.specs.Writing.{pickle_of};
@@ -8,10 +8,10 @@ ghost use Rattle.nob_frame.specs.declared.frame.Frame.{Frame as FrameOf};
 ghost use Rattle.nob_host_space.specs.Feeds.{feed_at, SameButOf};
 ghost use Rattle.nob_host_space.specs.Kept.{Through};
 ghost use Rattle.nob_host_space.specs.Numbers.{is_done, is_wanted};
-ghost use Rattle.nob_host_space.specs.Asked.{Pickles, SameStreams, Unasked};
+ghost use Rattle.nob_host_space.specs.Asked.{Pickles, SameStreams, SaysEmpty, Unasked};
 ghost use Rattle.nob_host_space.specs.Streams.{Pushed, BroughtOrWants};
 
-use nob_host_space::{Handle, Told};
+use nob_host_space::{Handle, KEEPS_NONE, Told};
 use std::alloc::Global;
 
 /// The next piece of the stream from a peer: the frames that are whole now wait, each of them from
@@ -24,7 +24,6 @@ pub extern "C" fn nob_push(
     piece: &[u8],
     told: &mut Told,
 ) -> u32
-    requires { IsSome handle.old.held }
     ensures pushed { IsSpace peer → Through handle.old.held handle.new.held (λ old new. old.waiting
         ≡ [] → Pushed peer old.space.id (is_done result) (feed_at old.feeds peer) piece.now
         new.waiting (feed_at new.feeds peer) told.new result) }
@@ -38,8 +37,12 @@ pub extern "C" fn nob_push(
         → Unasked old new told.new result 61) }
     ensures range { (IsSpace peer → ⊥) → Through handle.old.held handle.new.held (λ old new. Unasked
         old new told.new result 60) }
+    ensures empty { SaysEmpty handle.old.held handle.new.held told.new result }
 {
-    let mut host = handle.take(alloc);
+    let Some(mut host) = handle.take(alloc) else {
+        *told = Told::nothing();
+        return KEEPS_NONE;
+    };
     let status = host.push(peer, piece, told);
     handle.put(host);
     status
@@ -48,14 +51,17 @@ pub extern "C" fn nob_push(
 /// The first frame that waits comes to the space, and its bytes become the answer.
 #[unsafe(no_mangle)]
 pub extern "C" fn nob_next(handle: &mut Handle, alloc: Global, told: &mut Told) -> u32
-    requires { IsSome handle.old.held }
     ensures brought { Through handle.old.held handle.new.held (λ old new. (frame : FrameOf) (rest :
         List FrameOf) → old.waiting ≡ frame ∷ rest → BroughtOrWants old frame rest new told.new
         result) }
     ensures none { Through handle.old.held handle.new.held (λ old new. old.waiting ≡ []
         → Unasked old new told.new result 62) }
+    ensures empty { SaysEmpty handle.old.held handle.new.held told.new result }
 {
-    let mut host = handle.take(alloc);
+    let Some(mut host) = handle.take(alloc) else {
+        *told = Told::nothing();
+        return KEEPS_NONE;
+    };
     let status = host.next(alloc, told);
     handle.put(host);
     status
@@ -64,7 +70,6 @@ pub extern "C" fn nob_next(handle: &mut Handle, alloc: Global, told: &mut Told) 
 /// A new stream from a peer: what was kept of the one before is forgotten.
 #[unsafe(no_mangle)]
 pub extern "C" fn nob_restart(handle: &mut Handle, alloc: Global, peer: u16) -> u32
-    requires { IsSome handle.old.held }
     ensures fresh { IsSpace peer → Through handle.old.held handle.new.held (λ old new. (result ≡ 0)
         × (feed_at new.feeds peer ≡ Ok [])) }
     ensures others { Through handle.old.held handle.new.held (λ old new. SameButOf peer old.feeds
@@ -76,8 +81,11 @@ pub extern "C" fn nob_restart(handle: &mut Handle, alloc: Global, peer: u16) -> 
         (λ old new. new.waiting ≡ old.waiting) }
     ensures range { (IsSpace peer → ⊥) → Through handle.old.held handle.new.held (λ old new. (result
         ≡ 60) × (new ≡ old)) }
+    ensures empty { handle.old.held ≡ None → (handle.new.held ≡ None) × (result ≡ 65) }
 {
-    let mut host = handle.take(alloc);
+    let Some(mut host) = handle.take(alloc) else {
+        return KEEPS_NONE;
+    };
     let status = host.restart(alloc, peer);
     handle.put(host);
     status
@@ -86,7 +94,6 @@ pub extern "C" fn nob_restart(handle: &mut Handle, alloc: Global, peer: u16) -> 
 /// The pickle of the value that is kept becomes the answer.
 #[unsafe(no_mangle)]
 pub extern "C" fn nob_value(handle: &mut Handle, alloc: Global) -> u32
-    requires { IsSome handle.old.held }
     ensures pickled { Through handle.old.held handle.new.held (λ old new. (value : ValueOf)
         → old.value ≡ Some value → Pickles (is_wanted result) result old.answer new.answer
         (pickle_of value)) }
@@ -95,8 +102,11 @@ pub extern "C" fn nob_value(handle: &mut Handle, alloc: Global) -> u32
     ensures space { Through handle.old.held handle.new.held (λ old new. new.space ≡ old.space) }
     ensures value { Through handle.old.held handle.new.held (λ old new. new.value ≡ old.value) }
     ensures streams { Through handle.old.held handle.new.held (λ old new. SameStreams old new) }
+    ensures empty { handle.old.held ≡ None → (handle.new.held ≡ None) × (result ≡ 65) }
 {
-    let mut host = handle.take(alloc);
+    let Some(mut host) = handle.take(alloc) else {
+        return KEEPS_NONE;
+    };
     let status = host.pickle(alloc);
     handle.put(host);
     status
@@ -105,14 +115,17 @@ pub extern "C" fn nob_value(handle: &mut Handle, alloc: Global) -> u32
 /// Copies as many bytes of the answer as there is room for: how many it has.
 #[unsafe(no_mangle)]
 pub extern "C" fn nob_answer(handle: &mut Handle, alloc: Global, out: &mut [u8]) -> usize
-    requires { IsSome handle.old.held }
     ensures length { Through handle.old.held handle.new.held
         (λ old new. result ≡ length old.answer) }
     ensures copied { Through handle.old.held handle.new.held (λ old new. out.new ≡ take (length
         out.old) old.answer ++ drop (length old.answer) out.old) }
     ensures same { Through handle.old.held handle.new.held (λ old new. new ≡ old) }
+    ensures empty { handle.old.held ≡ None → (handle.new.held ≡ None) × (out.new ≡ out.old)
+        × (result ≡ 0) }
 {
-    let host = handle.take(alloc);
+    let Some(host) = handle.take(alloc) else {
+        return 0;
+    };
     let length = host.copy_answer(out);
     handle.put(host);
     length

@@ -83,6 +83,10 @@ pub record HostAsked (old : Host) (event : Event) (new : Host) (told : Told) (st
 abbrev pub Unasked : Host → Host → Told → ℕ → (why : ℕ) → Type 0
 Unasked old new told status why = (status ≡ why) × (told ≡ nothing) × (new ≡ old)
 
+-- a handle that keeps nothing says so, and nothing is told
+abbrev pub SaysEmpty : (old new : Option Host) → Told → ℕ → Type 0
+SaysEmpty old new told status = old ≡ None → (new ≡ None) × (told ≡ nothing) × (status ≡ 65)
+
 -- a host was asked what a pickle spells, or is as it was for its first fault; or memory was wanted to read it
 abbrev pub AskedBy : Result Value PickleFault → (Value → Event) → Host → Host → Told → ℕ → Type 0
 AskedBy (Ok value) event old new told status = HostAsked old (event value) new told status ⊎ Unasked old new told status 14

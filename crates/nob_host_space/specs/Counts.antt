@@ -5,7 +5,12 @@ use Rattle.nob_peek.specs.Seeing.{seen_in}
 use Rattle.nob_peek.specs.declared.seeing.Seen.{Seen}
 use Rattle.nob_peek.specs.declared.seeing.Seen.TheVariants as sights
 use Rattle.nob_space.specs.declared.counts.PeerCounts.{PeerCounts}
+use Rattle.nob_space.specs.declared.counts.SpaceCounts.{SpaceCounts}
 use Rattle.nob_host_space.specs.declared.counts.Front.{Front}
+
+-- the counts of no space
+abbrev pub no_space_counts : SpaceCounts
+no_space_counts = record { live = 0; surrogates = 0; calls = 0; waiting = 0; ready = 0; running = 0; replies = 0 }
 
 -- the counts of no peer
 abbrev pub no_counts : PeerCounts

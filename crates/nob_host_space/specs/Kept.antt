@@ -1,16 +1,16 @@
--- What a handle owns: nothing, or the box of the value that it keeps.
+-- What a handle owns: nothing, and its pointer is null, or the box of the value that it keeps.
 use Rattle.std.specs.Prelude.{◌≡◌}
 use mir.Syntax.{Ty}
-use base.Fml.{Fml, ftrue}
+use base.Fml.{Fml, ftrue, fex}
 use denote.RattleType.{RattleType}
-use denote.RawPtr.{Ptr}
+use denote.RawPtr.{Ptr, null_ptr}
 use Rattle.std.specs.declared.option.Option.{Option}
 use Rattle.std.specs.declared.option.Option.TheVariants.{None, Some}
 use Rattle.std.specs.Box.Ownership.{box_owns}
 
--- the box at a pointer, if there is a value
+-- the box at a pointer, where there is a value; else the pointer is null
 abbrev pub kept : (Ty → Ptr → Fml) → (R : RattleType) → Ptr → Option R.Denot → Fml
-kept holds R p None = ftrue
+kept holds R p None = fex (p ≡ null_ptr) (λ _. ftrue)
 kept holds R p (Some x) = box_owns holds R p x
 
 -- a handle keeps something of which this is true

@@ -1,5 +1,5 @@
 -- What can be seen of a space, in numbers. The newest entry of a space stands FIRST.
-use Rattle.std.specs.Prelude.{◌≡◌, ◌≤◌, ℕ, ◌-◌, List, Option, Some, None, is_some}
+use Rattle.std.specs.Prelude.{◌≡◌, ◌≤◌, ℕ, ◌-◌, false, List, Option, Some, None, is_some}
 use Rattle.std.specs.Int.{bit_at}
 use Rattle.nob_ids.specs.Reasons.{reason_number}
 use Rattle.nob_ids.specs.declared.reason.Reason.{Reason}
@@ -40,6 +40,10 @@ tally_in_numbers tally = record { session = tally.session; closed = ending_numbe
 -- the tally of no session
 abbrev pub tally_of_none : Tally
 tally_of_none = record { session = 0; closed = 0; sent = 0; acted = 0 }
+
+-- there is nothing that could be done
+abbrev pub no_work : Work
+no_work = record { act = 0; send = 0; settle = false; clean = false; claim = false; withdraw = false; index = 0 }
 
 -- what a space did that these entries tell
 abbrev pub past_of : Owner → List Entry → History

@@ -35,8 +35,8 @@ pub struct Front {
 }
 
 impl Front {
-    // Nothing.
-    fn nothing() -> Front
+    /// Nothing.
+    pub fn nothing() -> Front
         ensures { result ≡ counts.no_front }
     {
         Front {
@@ -105,8 +105,23 @@ impl Front {
     }
 }
 
-// The counts of no peer.
-fn counts_of_none() -> PeerCounts
+/// The counts of no space.
+pub fn counts_of_no_space() -> SpaceCounts
+    ensures { result ≡ counts.no_space_counts }
+{
+    SpaceCounts {
+        live: 0,
+        surrogates: 0,
+        calls: 0,
+        waiting: 0,
+        ready: 0,
+        running: 0,
+        replies: 0,
+    }
+}
+
+/// The counts of no peer.
+pub fn counts_of_no_peer() -> PeerCounts
     ensures { result ≡ counts.no_counts }
 {
     PeerCounts {
@@ -151,14 +166,14 @@ impl Host {
         ensures range { (IsSpace peer → ⊥) → result ≡ counts.no_counts }
     {
         let Some(peer) = SpaceId::new(peer) else {
-            return counts_of_none();
+            return counts_of_no_peer();
         };
         let here = Here {
             space: self.space.id(),
             n: self.space.n(),
         };
         if !here.is_peer(peer) {
-            return counts_of_none();
+            return counts_of_no_peer();
         }
         self.space.peer_counts(peer)
     }

@@ -1,6 +1,6 @@
 //! The handle.
 
-ghost use Rattle.std.specs.Prelude.{◌≡◌, IsSome};
+ghost use Rattle.std.specs.Prelude.{◌≡◌, MatchOption};
 ghost use Rattle.std.specs.declared.option.Option.{Option};
 ghost use Rattle.std.specs.declared.option.Option.TheVariants.{None, Some};
 ghost use Rattle.std.specs.contracts.impls.GlobalAllocator.TheImpl.{ghosts};
@@ -52,27 +52,30 @@ impl Handle {
         }
     }
 
-    // The pointer of what it keeps.
-    fn into_loose(self) -> Loose<Host, Global>
-        requires { IsSome self.held }
-        ensures { self.held ≡ Some result.value }
+    // The pointer of what it keeps, if it keeps something.
+    fn into_loose(self) -> Option<Loose<Host, Global>>
+        ensures { MatchOption result (self.held ≡ None) (λ loose. self.held ≡ Some loose.value) }
     {
         let Handle { at, alloc } = self;
-        Loose {
-            at: at as *mut Host,
-            alloc,
+        if at.is_null() {
+            None
+        } else {
+            Some(Loose {
+                at: at as *mut Host,
+                alloc,
+            })
         }
     }
 
-    /// The host that the handle keeps, which keeps nothing then. The caller's condition: it keeps
-    /// one.
-    pub fn take(&mut self, alloc: Global) -> Box<Host>
-        requires { IsSome self.old.held }
-        ensures taken { self.old.held ≡ Some result.value }
+    /// The host that the handle keeps, if it keeps one. It keeps nothing then.
+    pub fn take(&mut self, alloc: Global) -> Option<Box<Host>>
+        ensures taken { MatchOption result (self.old.held ≡ None)
+            (λ host. self.old.held ≡ Some host.value) }
         ensures empty { self.new.held ≡ None }
     {
         let full = std::mem::replace(self, Handle::dead(alloc));
-        full.into_loose().into_box()
+        let loose = full.into_loose()?;
+        Some(loose.into_box())
     }
 
     /// The handle keeps this host from now on. The caller's condition: it keeps nothing.

@@ -19,9 +19,10 @@ mod told;
 mod waiting;
 
 pub use births::birth_of;
-pub use counts::Front;
+pub use counts::{Front, counts_of_no_peer, counts_of_no_space};
 pub use handle::Handle;
 pub use host::Host;
 pub use looks::{Tally, Work};
 pub use nob_space::{PeerCounts, SpaceCounts};
+pub use numbers::{KEEPS_NONE, KEEPS_ONE, OUT_OF_RANGE, WANTED};
 pub use told::Told;

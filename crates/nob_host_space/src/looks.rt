@@ -42,6 +42,23 @@ pub struct Work {
     pub index: u64,
 }
 
+impl Work {
+    /// There is nothing that could be done.
+    pub fn nothing() -> Work
+        ensures { result ≡ looks.no_work }
+    {
+        Work {
+            act: 0,
+            send: 0,
+            settle: false,
+            clean: false,
+            claim: false,
+            withdraw: false,
+            index: 0,
+        }
+    }
+}
+
 /// What went each way on the present session with a peer, and how it ended.
 #[repr(C)]
 #[derive(Clone, Copy, Debug, PartialEq, Eq)]
@@ -57,8 +74,8 @@ pub struct Tally {
 }
 
 impl Tally {
-    // That of no session.
-    fn of_none() -> Tally
+    /// That of no session.
+    pub fn of_none() -> Tally
         ensures { result ≡ looks.tally_of_none }
     {
         Tally {

@@ -29,6 +29,12 @@ pub const NO_VALUE: u32 = 63;
 /// The status of a piece with a frame of another space than the stream's peer, or for another.
 pub const OF_OTHERS: u32 = 64;
 
+/// The handle keeps no space.
+pub const KEEPS_NONE: u32 = 65;
+
+/// The handle keeps a space already.
+pub const KEEPS_ONE: u32 = 67;
+
 // The number of what still uses an object.
 fn use_number(used: Use) -> u32
     ensures { result ≡ spec.use_number used }

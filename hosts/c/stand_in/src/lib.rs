@@ -22,15 +22,19 @@ struct Kept {
     n: u16,
 }
 
-// What a handle keeps, which its caller says is there.
-unsafe fn kept<'a>(handle: *mut Place) -> &'a mut Kept {
-    // SAFETY: the caller owes a handle that keeps a space, and one call at a time.
-    unsafe { &mut *(*handle).at }
+// Statuses of a handle that keeps no space, and of one that keeps a space already.
+const KEEPS_NONE: u32 = 65;
+const KEEPS_ONE: u32 = 67;
+
+// What a handle keeps, if it keeps something.
+unsafe fn kept<'a>(handle: *mut Place) -> Option<&'a mut Kept> {
+    // SAFETY: the caller owes the place of a handle, which keeps a space unless it is null, and one call at a time.
+    unsafe { (*handle).at.as_mut() }
 }
 
-unsafe fn space<'a>(handle: *mut Place) -> &'a mut Handle {
+unsafe fn space<'a>(handle: *mut Place) -> Option<&'a mut Handle> {
     // SAFETY: as of `kept`.
-    unsafe { &mut kept(handle).space }
+    unsafe { kept(handle) }.map(|kept| &mut kept.space)
 }
 
 /// See `masttomato.h`.
@@ -45,8 +49,8 @@ pub unsafe extern "C" fn nob_new(
     window: u64,
     retry: u64,
 ) -> u32 {
-    // SAFETY: the caller owes a handle that may be written.
-    unsafe { keep(handle, id, n, Handle::new(id, n, window, retry)) }
+    // SAFETY: the caller owes a handle that may be read and written.
+    unsafe { keep(handle, id, n, || Handle::new(id, n, window, retry)) }
 }
 
 /// See `masttomato.h`.
@@ -71,14 +75,24 @@ pub unsafe extern "C" fn nob_begin_at(
     // SAFETY: the caller owes a handle that may be written, and one live slice.
     unsafe {
         let sessions = slice::from_raw_parts(sessions, count);
-        let space = Handle::begin_at(id, n, window, retry, indexes, calls, jobs, sessions);
-        keep(handle, id, n, space)
+        keep(handle, id, n, || {
+            Handle::begin_at(id, n, window, retry, indexes, calls, jobs, sessions)
+        })
     }
 }
 
-// Puts a space into a handle, if there is one: the status.
-unsafe fn keep(handle: *mut Place, id: u16, n: u16, space: Result<Handle, u32>) -> u32 {
-    match space {
+// Puts a space into a handle that keeps none, if there is one: the status.
+unsafe fn keep(
+    handle: *mut Place,
+    id: u16,
+    n: u16,
+    space: impl FnOnce() -> Result<Handle, u32>,
+) -> u32 {
+    // SAFETY: as of `kept`.
+    if unsafe { kept(handle) }.is_some() {
+        return KEEPS_ONE;
+    }
+    match space() {
         Err(status) => status,
         Ok(space) => {
             let at = Box::into_raw(Box::new(Kept { space, id, n }));
@@ -95,9 +109,10 @@ unsafe fn keep(handle: *mut Place, id: u16, n: u16, space: Result<Handle, u32>) 
 /// What a caller owes there.
 #[unsafe(no_mangle)]
 pub unsafe extern "C" fn nob_end(handle: *mut Place) {
-    // SAFETY: the caller owes a handle that keeps a space, and never copied it: so it is the only one, made by `nob_new`.
+    // SAFETY: the caller owes a handle that was never copied: so what it keeps has no other one, and was made by `nob_new`.
     unsafe {
-        drop(Box::from_raw((*handle).at));
+        let Some(kept) = kept(handle) else { return };
+        drop(Box::from_raw(kept));
         handle.write(Place { at: ptr::null_mut() });
     }
 }
@@ -109,7 +124,8 @@ unsafe fn ask(
     ask: impl FnOnce(&mut Handle) -> Answered,
 ) -> u32 {
     // SAFETY: as of `space`; the caller owes a place that may be written.
-    let (status, said) = ask(unsafe { space(handle) });
+    let space = unsafe { space(handle) };
+    let (status, said) = space.map_or((KEEPS_NONE, Told::default()), ask);
     unsafe { told.write(said) };
     status
 }
@@ -180,9 +196,9 @@ given! {
     nob_push => push(peer: u16);
 }
 
-// What only looks, or answers a number.
+// What only looks, or answers a number; and what it says of a handle that keeps nothing.
 macro_rules! looks {
-    ($($name:ident => $method:ident($($number:ident: $kind:ty),*) -> $answer:ty;)*) => {$(
+    ($($name:ident => $method:ident($($number:ident: $kind:ty),*) -> $answer:ty, $none:expr;)*) => {$(
         /// See `masttomato.h`.
         ///
         /// # Safety
@@ -190,19 +206,19 @@ macro_rules! looks {
         #[unsafe(no_mangle)]
         pub unsafe extern "C" fn $name(handle: *mut Place, $($number: $kind),*) -> $answer {
             // SAFETY: the caller owes it.
-            unsafe { space(handle) }.$method($($number),*)
+            unsafe { space(handle) }.map_or($none, |space| space.$method($($number),*))
         }
     )*};
 }
 
 looks! {
-    nob_restart => restart(peer: u16) -> u32;
-    nob_value => value() -> u32;
-    nob_lists => lists(index: u64, client: u16) -> bool;
-    nob_reply_ready => reply_ready(call: u64) -> bool;
-    nob_due => due(peer: u16) -> u32;
-    nob_live => live() -> u64;
-    nob_next_reply => next_reply() -> u64;
+    nob_restart => restart(peer: u16) -> u32, KEEPS_NONE;
+    nob_value => value() -> u32, KEEPS_NONE;
+    nob_lists => lists(index: u64, client: u16) -> bool, false;
+    nob_reply_ready => reply_ready(call: u64) -> bool, false;
+    nob_due => due(peer: u16) -> u32, 0;
+    nob_live => live() -> u64, 0;
+    nob_next_reply => next_reply() -> u64, 0;
 }
 
 /// See `masttomato.h`.
@@ -212,7 +228,7 @@ looks! {
 #[unsafe(no_mangle)]
 pub unsafe extern "C" fn nob_id(handle: *mut Place) -> u16 {
     // SAFETY: the caller owes it.
-    unsafe { kept(handle) }.id
+    unsafe { kept(handle) }.map_or(0, |kept| kept.id)
 }
 
 /// See `masttomato.h`.
@@ -222,7 +238,7 @@ pub unsafe extern "C" fn nob_id(handle: *mut Place) -> u16 {
 #[unsafe(no_mangle)]
 pub unsafe extern "C" fn nob_n(handle: *mut Place) -> u16 {
     // SAFETY: the caller owes it.
-    unsafe { kept(handle) }.n
+    unsafe { kept(handle) }.map_or(0, |kept| kept.n)
 }
 
 /// See `masttomato.h`.
@@ -232,7 +248,8 @@ pub unsafe extern "C" fn nob_n(handle: *mut Place) -> u16 {
 #[unsafe(no_mangle)]
 pub unsafe extern "C" fn nob_answer(handle: *mut Place, out: *mut u8, room: usize) -> usize {
     // SAFETY: the caller owes one live slice that may be written.
-    unsafe { space(handle).answer(slice::from_raw_parts_mut(out, room)) }
+    let out = unsafe { slice::from_raw_parts_mut(out, room) };
+    unsafe { space(handle) }.map_or(0, |space| space.answer(out))
 }
 
 /// See `masttomato.h`.
@@ -242,7 +259,7 @@ pub unsafe extern "C" fn nob_answer(handle: *mut Place, out: *mut u8, room: usiz
 #[unsafe(no_mangle)]
 pub unsafe extern "C" fn nob_work(handle: *mut Place, work: *mut Work) {
     // SAFETY: the caller owes a place that may be written.
-    unsafe { work.write(space(handle).work()) }
+    unsafe { work.write(space(handle).map_or_else(Work::default, |space| space.work())) }
 }
 
 /// See `masttomato.h`.
@@ -252,7 +269,7 @@ pub unsafe extern "C" fn nob_work(handle: *mut Place, work: *mut Work) {
 #[unsafe(no_mangle)]
 pub unsafe extern "C" fn nob_tally(handle: *mut Place, peer: u16, tally: *mut Tally) {
     // SAFETY: the caller owes a place that may be written.
-    unsafe { tally.write(space(handle).tally(peer)) }
+    unsafe { tally.write(space(handle).map_or_else(Tally::default, |space| space.tally(peer))) }
 }
 
 /// See `masttomato.h`.
@@ -262,7 +279,7 @@ pub unsafe extern "C" fn nob_tally(handle: *mut Place, peer: u16, tally: *mut Ta
 #[unsafe(no_mangle)]
 pub unsafe extern "C" fn nob_counts(handle: *mut Place, counts: *mut Counts) {
     // SAFETY: the caller owes a place that may be written.
-    unsafe { counts.write(space(handle).counts()) }
+    unsafe { counts.write(space(handle).map_or_else(Counts::default, |space| space.counts())) }
 }
 
 /// See `masttomato.h`.
@@ -272,7 +289,8 @@ pub unsafe extern "C" fn nob_counts(handle: *mut Place, counts: *mut Counts) {
 #[unsafe(no_mangle)]
 pub unsafe extern "C" fn nob_peer_counts(handle: *mut Place, peer: u16, counts: *mut PeerCounts) {
     // SAFETY: the caller owes a place that may be written.
-    unsafe { counts.write(space(handle).peer_counts(peer)) }
+    let counted = unsafe { space(handle) }.map(|space| space.peer_counts(peer));
+    unsafe { counts.write(counted.unwrap_or_default()) }
 }
 
 /// See `masttomato.h`.
@@ -282,7 +300,7 @@ pub unsafe extern "C" fn nob_peer_counts(handle: *mut Place, peer: u16, counts: 
 #[unsafe(no_mangle)]
 pub unsafe extern "C" fn nob_front(handle: *mut Place, peer: u16, front: *mut Front) {
     // SAFETY: the caller owes a place that may be written.
-    unsafe { front.write(space(handle).front(peer)) }
+    unsafe { front.write(space(handle).map_or_else(Front::default, |space| space.front(peer))) }
 }
 
 /// See `masttomato.h`.

@@ -28,7 +28,8 @@ struct RawHandle {
     at: *mut c_void,
 }
 
-// Each takes a handle that keeps a space, but for `nob_new` and `nob_begin_at`, which take one that keeps nothing.
+// Each is given a handle that keeps a space, but for `nob_new` and `nob_begin_at`, which are given one that keeps nothing. Of
+// another one they would say so, by 65 and 67.
 unsafe extern "C" {
     fn nob_new(handle: *mut RawHandle, id: u16, n: u16, window: u64, retry: u64) -> u32;
     fn nob_begin_at(

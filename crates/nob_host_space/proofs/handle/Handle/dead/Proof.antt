@@ -1,5 +1,5 @@
 -- Null, beside the allocator's handle, keeps nothing.
-use Rattle.nob_host_space.proofs.Steps.{◌≡◌, List, [], ◌∷◌, ◌++◌, refl, sym, subst, Val, SProp, ent, emp, id⊢, ftrue, WpFn, ‵, raw, ◌⊛◌, ◌$◌, ◌∵◌, !, qed, by, move, keep, split, fsplit, fjoin, suffices, use0, lit, of_opd, no_more, and_then, returns, enter, alloc_all, pass_all, free_all, look_at, get, sets, agg, fact, fact_i, tables, yes, owns, types_at, plain, null_ptr, ptr_val, nothing, Stays, stay_dropped, walk_of, Goes-dropped, Ptr-Good, proved_at, leaves}
+use Rattle.nob_host_space.proofs.Steps.{◌≡◌, List, [], ◌∷◌, ◌++◌, refl, sym, subst, Val, SProp, ent, emp, id⊢, ftrue, WpFn, ‵, raw, ◌⊛◌, ◌$◌, ◌∵◌, !, qed, by, move, keep, split, fsplit, fjoin, fpack, suffices, use0, lit, of_opd, no_more, and_then, returns, enter, alloc_all, pass_all, free_all, look_at, get, sets, agg, fact, fact_i, tables, yes, owns, types_at, plain, null_ptr, ptr_val, nothing, Stays, stay_dropped, walk_of, Goes-dropped, Ptr-Good, proved_at, leaves}
 use Rattle.std.specs.declared.option.Option.TheVariants.{None}
 use Rattle.nob_host_space.proofs.Values.{both, both_fit, Heap, Handle, heap_tells, handle_in}
 use Rattle.nob_host_space.specs.contracts.handle.Handle.dead as f
@@ -18,6 +18,6 @@ dead_spec 𝓤 𝓛 𝓜 𝓡 wired =
     enter ! 𝓣.C 𝓣.Λ fn (h ∷ []) Post $ alloc_all ! (λ l. pass_all ! refl (good, tt) $
     sets ! (of_opd ! (lit ! tt)) refl (Ptr-Good null_ptr) $
     sets ! (agg ! (and_then ! (get ! refl) (and_then ! (get ! refl) (no_more !)))) refl (both_fit null_ptr h good) $
-    nothing ! $ handle_in ! null_ptr h a None $
+    nothing ! $ fpack ! (null_ptr ≡ null_ptr) (λ _. ftrue) refl $ handle_in ! null_ptr h a None $
     use0 𝓛 (raw (fact 𝓤 (made.held ≡ None))) (fact_i 𝓤 (made.held ≡ None) (emp 𝓤) refl) $ nothing ! $ nothing ! $ fjoin ! $
     returns ! (look_at ! 0 refl) $ free_all ! refl $ keep ! (4 ∷ 0 ∷ 2 ∷ 1 ∷ []) $ by ! (leaves 𝓛 f.ended stayed c z w made (_, tt) (tt, tt)))))
