@@ -164,12 +164,7 @@ fn row_number(
         x: 36,
         y: y_of(page, row as u128) + 4,
     };
-    Ok(Shape::Noted(
-        Style::Number,
-        at,
-        Bytes::from_vec(lives),
-        number,
-    ))
+    Ok(Shape::Noted(Style::Number, at, Bytes::from_vec(lives), number))
 }
 
 // The line from the text of an entry to its lifeline.

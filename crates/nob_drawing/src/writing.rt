@@ -210,12 +210,7 @@ fn put_words(text: &mut Vec<u8>, start: &[u8], words: &[u8]) -> Result<(), Alloc
 }
 
 // Puts a text with its note, and with what stands before and behind them.
-fn put_noted(
-    text: &mut Vec<u8>,
-    start: &[u8],
-    note: &[u8],
-    words: &[u8],
-) -> Result<(), AllocError>
+fn put_noted(text: &mut Vec<u8>, start: &[u8], note: &[u8], words: &[u8]) -> Result<(), AllocError>
     ensures { OnOk result (text.new.items ≡ text.old.items ++ (start.now
         ++ (spec.escaped note.now ++ (codes "'>"
         ++ (spec.escaped words.now ++ codes "</text>\n"))))) }

@@ -105,6 +105,7 @@ bar_more bars bar [] = sym (by bar.end)
     none : (row : ℕ) (rep : WireRep) → with_name row rep [] ≡ []
     none zero rep = refl
     none (suc count) rep = refl
+
     by : (end : Option ℕ) → with_end bar.start end (subject_of bar.mark) (with_name bar.start (subject_of bar.mark) []) ≡ []
     by None = none bar.start (subject_of bar.mark)
     by (Some end) = ap (with_end bar.start (Some end) (subject_of bar.mark)) (none bar.start (subject_of bar.mark)) ∙ at_end (end == bar.start)
