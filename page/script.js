@@ -13,7 +13,7 @@ const SVG = 'http://www.w3.org/2000/svg';
 
 const LINE = /^<line class='([a-z -]+)' x1='(\d+)' y1='(\d+)' x2='(\d+)' y2='(\d+)'\/>$/;
 const BOX = /^<rect class='(live|listed|pinned)' x='(\d+)' y='(\d+)' width='9' height='(\d+)'><title>(.*)<\/title><\/rect>$/;
-const TEXT = /^<text class='([a-z ]+)' x='(\d+)' y='(\d+)'>(.*)<\/text>$/;
+const TEXT = /^<text class='([a-z ]+)' x='(\d+)' y='(\d+)'(?: data-lives='([\d. ]*)')?>(.*)<\/text>$/;
 const SHOWN = /^<text class='shown' x='12' y='38'>shown: (.*)<\/text>$/;
 
 const plain = words => words.includes('&') ? words.replace(/&lt;/g, '<').replace(/&gt;/g, '>').replace(/&amp;/g, '&') : words;
@@ -25,18 +25,18 @@ const METHODS = ['put', 'get', 'remove'];
 const atArrow = words => words.replace(/^Call \d+\.0 (\d+) /, (all, method) => `Call agent ${METHODS[method] || method} `)
   .replace(/ b((?:[2-6][0-9a-f]|7[0-9a-e])+)$/, (all, hex) => ` "${hex.replace(/../g, it => String.fromCharCode(parseInt(it, 16)))}"`);
 
-// Says what a lost frame is: by the row's text, if it is whole up to there; else by the words that stand beside it where it is one of the first two
+// What a lost frame is: by the row's text, if it is whole up to there; else by the words that stand beside it where it is one of the first two
 // of its row.
 function nameLost(lost, row, words) {
   const given = row.text.slice(row.text.indexOf(' = ') + 3).split(', '), isWhole = lost.place < given.length - (isCut(row.text) ? 1 : 0);
-  Object.assign(lost, isWhole ? { named: given[lost.place], words: atArrow(given[lost.place]) } : { named: words, words });
+  lost.words = isWhole ? atArrow(given[lost.place]) : words;
 }
 
 // What a drawing shows. A *place* is that of a row among those drawn, from 1; 0 is above them all, one more than there are below.
 function read(text) {
   const run = { shown: '', spaces: 0, rows: [], bars: [], arrows: [], lost: [], strays: [] }, lines = text.split('\n');
   const add = (list, it) => list.push(Object.assign(it, { number: list.length }));
-  let i = lines.findIndex(line => line.startsWith("<line class='life'")), crossed = null, strayed = null, number = 0, heads = null, headed = 0;
+  let i = lines.findIndex(line => line.startsWith("<line class='life'")), crossed = null, strayed = null, number = 0, lives = '', heads = null, headed = 0;
   if (i < 0 || !lines[0].startsWith('<svg ')) throw new Error('this is no drawing');
   const shown = lines.slice(0, i).map(line => SHOWN.exec(line)).find(it => it);
   if (shown) run.shown = plain(shown[1]);
@@ -47,12 +47,15 @@ function read(text) {
     if (kind === 'guide' || kind === 'life' || kind === 'held' || kind === 'void') continue;
     if (/^<rect class='[arcf]/.test(line)) continue; // the point of a row
     if ((it = TEXT.exec(line))) {
-      const words = plain(it[4]);
-      if (kind === 'number') number = Number(words);
-      else if (kind === 'name') run.spaces++;
+      const words = plain(it[5]);
+      if (kind === 'number') {
+        if (it[4] === undefined) throw new Error(`a row that doesn't say of whose lives it is part: ${line}`);
+        number = Number(words);
+        lives = `${it[4]} `;
+      } else if (kind === 'name') run.spaces++;
       else if (kind === 'gloss') run.rows[run.rows.length - 1].gloss = words;
       else if (!kind.startsWith('words')) {
-        add(run.rows, { kind, text: words, space: parseInt(words, 10), row: number, gloss: '' });
+        add(run.rows, { kind, text: words, space: parseInt(words, 10), row: number, lives, gloss: '' });
         if (placeAt(it[3] - 4) !== run.rows.length) throw new Error(`a row stands where another is due: ${line}`);
       } else if (strayed) {
         strayed.words = words;
@@ -93,8 +96,8 @@ function read(text) {
 // Whether a text was cut short: no whole one ends so.
 const isCut = text => text.endsWith('..');
 
-// Where a text names references: a reference, or the object that a space withdraws or on which its job is, which stands there
-// without its owner. A number at which the text is cut is none, since it may go on.
+// Where a text names references, which can be clicked there: a reference, or the object that a space withdraws or on which its job is, which stands
+// there without its owner. A number at which the text is cut is none, since it may go on.
 const NAMES = /(?<![\d.])\d+\.\d+(?!\d)|(?<=^\d+ withdraw )\d+|(?<= = job \d+ from \d+ call \d+ on )\d+/g;
 function namesIn(text, space) {
   const whole = isCut(text) ? text.length - 2 : Infinity;
@@ -102,21 +105,10 @@ function namesIn(text, space) {
     .map(it => ({ at: it.index, words: it[0], ref: it[0].includes('.') ? it[0] : `${space}.${it[0]}` }));
 }
 
-function isNamed(text, space, ref) {
-  return (text.includes(ref) || / (withdraw|on) \d/.test(text)) && namesIn(text, space).some(it => it.ref === ref);
-}
-
-// The places of a reference's life: of the rows that name it, and of both ends of the arrows and bars whose words do.
+// The places of the rows that are part of a reference's life: the drawing says with each row of whose.
 function lifeOf(ref) {
-  const places = new Set();
-  for (const it of run.rows) if (isNamed(it.text, it.space, ref)) places.add(it.number + 1);
-  for (const it of run.arrows) if (isNamed(it.words, 0, ref)) places.add(it.start).add(it.end);
-  for (const it of run.lost) if (isNamed(it.named, 0, ref)) places.add(it.start);
-  for (const it of run.strays) if (isNamed(it.words, 0, ref)) places.add(it.end);
-  for (const it of run.bars) if (it.ref === ref) places.add(it.start).add(it.end);
-  places.delete(0);
-  places.delete(run.rows.length + 1);
-  return places;
+  const name = ` ${ref} `;
+  return new Set(run.rows.filter(row => row.lives.includes(name)).map(row => row.number + 1));
 }
 
 // ---- words for a reader
@@ -251,20 +243,16 @@ function choose() {
     return it;
   });
   state.width = x - 150;
-  say(life);
+  say();
   resize();
   find();
 }
 
-// Says which rows are shown. The words of all frames that a row gives stand at its arrows and crosses, where its own text is cut.
-function say(life) {
-  const all = counted(run.rows.length, 'row'), how = life ? [`the life of ${state.life}`] : [];
+// Says which rows are shown.
+function say() {
+  const all = counted(run.rows.length, 'row'), how = state.life ? [`the life of ${state.life}`] : [];
   for (const [name, word] of Object.entries(state.filters)) if (word !== 'shown') how.push(word === 'alone' ? `${name} alone` : `without ${name}`);
-  const unsure = new Set([...run.arrows, ...run.lost].filter(it => it.words === '' || isCut(it.named || it.words)).map(it => it.start));
-  const isUnsure = (row, place) => isCut(row.text) && (!/^\d+ send /.test(row.text) || unsure.has(place));
-  const cut = life ? run.rows.filter((row, i) => isUnsure(row, i + 1) && !life.has(i + 1)).length : 0;
-  const more = cut > 0 ? ` (${counted(cut, 'other row has a text', 'other rows have texts')} cut short, and may name it behind the cut)` : '';
-  part('shown').textContent = how.length === 0 ? `all ${all}` : `showing ${figure(state.places.length)} of ${all}: ${how.join(', ')}${more}`;
+  part('shown').textContent = how.length === 0 ? `all ${all}` : `showing ${figure(state.places.length)} of ${all}: ${how.join(', ')}`;
   part('shown').className = how.length === 0 ? '' : 'part';
   part('all').hidden = how.length === 0;
 }

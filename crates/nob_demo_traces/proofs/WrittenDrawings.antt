@@ -3,6 +3,7 @@ use Rattle.std.proofs.Common.{◌≡◌, ℕ, List, [], ◌++◌, reverse, map, 
 use Prim.Native.Nat.{zero, suc}
 use Rattle.std.proofs.lemmas.List.{append-nil}
 use Rattle.std.specs.Prelude.{codes}
+use Rattle.nob_ids.specs.declared.wire_rep.WireRep.{WireRep}
 use Rattle.nob_model_types.specs.declared.entry.Entry.{Entry}
 use Rattle.nob_chain.specs.declared.chain.ChainParts.{ChainParts}
 use Rattle.nob_chain.specs.declared.fault.ChainFault.{ChainFault}
@@ -20,7 +21,7 @@ use Rattle.nob_drawing_plan.specs.declared.bar.Bar.{Bar}
 use Rattle.nob_drawing_plan.specs.declared.flight.Arrow.{Arrow}
 use Rattle.nob_drawing_plan.specs.declared.flight.Departure.{Departure}
 use Rattle.nob_drawing_plan.specs.declared.flight.Stray.{Stray}
-use Rattle.nob_drawing_choice.specs.Plans.{places_in, bars_in, arrows_in, lost_in, strays_in, count_drawn}
+use Rattle.nob_drawing_choice.specs.Plans.{places_in, lives_in, bars_in, arrows_in, lost_in, strays_in, count_drawn}
 use Rattle.nob_drawing.specs.declared.page.Page.{Page}
 use Rattle.nob_drawing.specs.Layout.{drawing, width_of, height_of}
 use Rattle.nob_drawing.specs.declared.shape.Shape.{Shape}
@@ -45,11 +46,12 @@ few_drawn (suc number) (Some place ∷ all) =
 -- ---- texts
 
 -- the text of the shapes of what is drawn is the drawing
-pub svg_is : (n : ℕ) (part : Part) (accepted : Bool) (fault : Option ℕ) (J : List Entry) (page : Page) (places : List (Option ℕ)) (bars : List Bar) (arrows : List Arrow) (lost : List Departure) (strays : List Stray) (width height : ℕ) (shapes : List Shape)
-    → places ≡ places_in n part.choice fault J → bars ≡ bars_in n part.choice fault J → arrows ≡ arrows_in n part.choice fault J → lost ≡ lost_in n part.choice fault J → strays ≡ strays_in n part.choice fault J
-    → page ≡ page_of n part accepted fault places J → width ≡ width_of page → height ≡ height_of page → shapes ≡ drawing page places bars arrows lost strays J → svg_text width height shapes ≡ svg_of n part accepted fault J
+pub svg_is : (n : ℕ) (part : Part) (accepted : Bool) (fault : Option ℕ) (J : List Entry) (page : Page) (places : List (Option ℕ)) (lives : List (List WireRep)) (bars : List Bar) (arrows : List Arrow) (lost : List Departure) (strays : List Stray) (width height : ℕ) (shapes : List Shape)
+    → places ≡ places_in n part.choice fault J → lives ≡ lives_in n J → bars ≡ bars_in n part.choice fault J → arrows ≡ arrows_in n part.choice fault J → lost ≡ lost_in n part.choice fault J → strays ≡ strays_in n part.choice fault J
+    → page ≡ page_of n part accepted fault places J → width ≡ width_of page → height ≡ height_of page → shapes ≡ drawing page places lives bars arrows lost strays J → svg_text width height shapes ≡ svg_of n part accepted fault J
 unfolding svg_of
-svg_is n part accepted fault J page places bars arrows lost strays width height shapes places_are bars_are arrows_are lost_are strays_are page_is width_is height_is shapes_are =
+svg_is n part accepted fault J page places lives bars arrows lost strays width height shapes places_are lives_are bars_are arrows_are lost_are strays_are page_is width_is height_is shapes_are =
+    let O = lives_in n J in
     let B = bars_in n part.choice fault J in
     let A = arrows_in n part.choice fault J in
     let L = lost_in n part.choice fault J in
@@ -57,12 +59,13 @@ svg_is n part accepted fault J page places bars arrows lost strays width height 
     ap (λ (w : ℕ). svg_text w height shapes) width_is
     ∙ ap (λ (h : ℕ). svg_text (width_of page) h shapes) height_is
     ∙ ap (λ (all : List Shape). svg_text (width_of page) (height_of page) all) shapes_are
-    ∙ ap (λ (some : List Bar). svg_text (width_of page) (height_of page) (drawing page places some arrows lost strays J)) bars_are
-    ∙ ap (λ (some : List Arrow). svg_text (width_of page) (height_of page) (drawing page places B some lost strays J)) arrows_are
-    ∙ ap (λ (some : List Departure). svg_text (width_of page) (height_of page) (drawing page places B A some strays J)) lost_are
-    ∙ ap (λ (some : List Stray). svg_text (width_of page) (height_of page) (drawing page places B A L some J)) strays_are
-    ∙ ap (λ (p : Page). svg_text (width_of p) (height_of p) (drawing p places B A L S J)) page_is
-    ∙ ap (λ (ps : List (Option ℕ)). svg_text (width_of (page_of n part accepted fault ps J)) (height_of (page_of n part accepted fault ps J)) (drawing (page_of n part accepted fault ps J) ps B A L S J)) places_are
+    ∙ ap (λ (some : List (List WireRep)). svg_text (width_of page) (height_of page) (drawing page places some bars arrows lost strays J)) lives_are
+    ∙ ap (λ (some : List Bar). svg_text (width_of page) (height_of page) (drawing page places O some arrows lost strays J)) bars_are
+    ∙ ap (λ (some : List Arrow). svg_text (width_of page) (height_of page) (drawing page places O B some lost strays J)) arrows_are
+    ∙ ap (λ (some : List Departure). svg_text (width_of page) (height_of page) (drawing page places O B A some strays J)) lost_are
+    ∙ ap (λ (some : List Stray). svg_text (width_of page) (height_of page) (drawing page places O B A L some J)) strays_are
+    ∙ ap (λ (p : Page). svg_text (width_of p) (height_of p) (drawing p places O B A L S J)) page_is
+    ∙ ap (λ (ps : List (Option ℕ)). svg_text (width_of (page_of n part accepted fault ps J)) (height_of (page_of n part accepted fault ps J)) (drawing (page_of n part accepted fault ps J) ps O B A L S J)) places_are
 
 -- the drawing of accepted chains
 pub drawn_written : (input : List ℕ) (part : Part) (chains : List ChainParts) (merged : List Entry) (text : List ℕ) → AreSpelt input chains → IsJudged chains merged None → text ≡ svg_of (spaces_of chains) part true None (reverse merged) → Draws input part (text ++ last_line Drawn) Drawn

@@ -14,7 +14,7 @@ use Rattle.nob_model_traces.specs.declared.fault.WrongEntry.{WrongEntry}
 use Rattle.nob_model_chains.specs.declared.fault.SetFault.TheVariants.{Traces}
 use Rattle.nob_model_chains.specs.Faults.{IsFault, AreAccepted}
 use Rattle.nob_drawing_plan.specs.Laws.{HaveArrows}
-use Rattle.nob_drawing_choice.specs.Plans.{places_in, bars_in, arrows_in, lost_in, strays_in, count_drawn}
+use Rattle.nob_drawing_choice.specs.Plans.{places_in, lives_in, bars_in, arrows_in, lost_in, strays_in, count_drawn}
 use Rattle.nob_drawing.specs.declared.page.Page.{Page}
 use Rattle.nob_drawing.specs.Layout.{drawing, width_of, height_of}
 use Rattle.nob_drawing.specs.Writing.{svg_text}
@@ -60,7 +60,7 @@ page_of n part accepted fault places J = record {
 -- the drawing of a journal, where this page of it is shown
 abbrev pub svg_on : Page → ℕ → Part → Option ℕ → List Entry → List ℕ
 svg_on page n part fault J =
-    svg_text (width_of page) (height_of page) (drawing page (places_in n part.choice fault J) (bars_in n part.choice fault J) (arrows_in n part.choice fault J) (lost_in n part.choice fault J) (strays_in n part.choice fault J) J)
+    svg_text (width_of page) (height_of page) (drawing page (places_in n part.choice fault J) (lives_in n J) (bars_in n part.choice fault J) (arrows_in n part.choice fault J) (lost_in n part.choice fault J) (strays_in n part.choice fault J) J)
 
 -- the drawing of a journal
 unfoldable pub svg_of : ℕ → Part → (accepted : Bool) → Option ℕ → List Entry → List ℕ

@@ -8,14 +8,16 @@ use Rattle.nob_drawing.specs.declared.shape.Shape.{Shape}
 use Rattle.nob_model_types.specs.declared.entry.Entry.{Entry}
 use Rattle.nob_drawing.specs.declared.page.Page.{Page}
 use Rattle.nob_drawing_plan.specs.Bars.{row_after}
+use Rattle.nob_ids.specs.declared.wire_rep.WireRep.{WireRep}
+use Rattle.nob_drawing_choice.specs.Lives.{names_at}
 use Rattle.nob_drawing_choice.specs.Plans.{place_of}
 use Rattle.nob_drawing.specs.Glosses.{element_gloss, elements_gloss}
 use Rattle.nob_drawing.specs.Layout as spec
 
 -- the entries of a journal that are shown, with one more
-pub entries_next : (page : Page) (places : List (Option ℕ)) (entry : Entry) (J more : List Entry) (number : ℕ) (place : Option ℕ) (so_far after : List Shape) → more ≡ entry ∷ J → number ≡ row_after J → so_far ≡ spec.entries_shapes page places J
-    → place ≡ place_of places number → after ≡ so_far ++ spec.entry_at page place number entry → after ≡ spec.entries_shapes page places more
-entries_next page places entry J more number place so_far after is number_is were place_is all_are = rw (is, all_are, place_is, number_is, were) refl
+pub entries_next : (page : Page) (places : List (Option ℕ)) (lives : List (List WireRep)) (entry : Entry) (J more : List Entry) (number : ℕ) (place : Option ℕ) (names : List WireRep) (so_far after : List Shape) → more ≡ entry ∷ J → number ≡ row_after J
+    → so_far ≡ spec.entries_shapes page places lives J → place ≡ place_of places number → names ≡ names_at lives number → after ≡ so_far ++ spec.entry_at page place number names entry → after ≡ spec.entries_shapes page places lives more
+entries_next page places lives entry J more number place names so_far after is number_is were place_is names_are all_are = rw (is, all_are, place_is, names_are, number_is, were) refl
 
 -- the bytes among the elements of a list, with one element more
 pub elements_next : (vs : List Value) (i : ℕ) (v : Value) (now next all : List ℕ) → i < length vs → v ≡ get_or vs i v → next ≡ now ++ element_gloss (tree v)

@@ -3,6 +3,7 @@
 use Prim.Native.Nat.{zero}
 use Rattle.std.specs.Prelude.{ℕ, suc, ◌+◌, ◌*◌, ◌-◌, ◌/◌, Bool, true, false, ◌&&◌, not, ◌==◌, nat_le, nat_lt, min, max, List, [], ◌∷◌, ◌++◌, length, map, filter, flat_map, codes, Option, Some, None, Result, Ok, Err, if◌then◌else◌}
 use Rattle.std.specs.Fmt.{decimal}
+use Rattle.nob_ids.specs.declared.wire_rep.WireRep.{WireRep}
 use Rattle.nob_model_types.specs.declared.answer.Answer.{Answer}
 use Rattle.nob_model_types.specs.declared.answer.Answer.TheVariants.{Closed}
 use Rattle.nob_model_types.specs.declared.refusal.Refusal.{Refusal}
@@ -14,6 +15,7 @@ use Rattle.nob_drawing_plan.specs.declared.flight.Departure.{Departure}
 use Rattle.nob_drawing_plan.specs.declared.flight.Arrow.{Arrow}
 use Rattle.nob_drawing_plan.specs.declared.flight.Stray.{Stray}
 use Rattle.nob_drawing_plan.specs.Bars.{row_after}
+use Rattle.nob_drawing_choice.specs.Lives.{names_at}
 use Rattle.nob_drawing_choice.specs.Plans.{place_of as place_drawn}
 use Rattle.nob_drawing.specs.declared.page.Page.{Page}
 use Rattle.nob_drawing.specs.declared.shape.Point.{Point}
@@ -21,7 +23,7 @@ use Rattle.nob_drawing.specs.declared.shape.Style.{Style}
 use Rattle.nob_drawing.specs.declared.shape.Style.TheVariants as styles
 use Rattle.nob_drawing.specs.declared.shape.Shape.{Shape}
 use Rattle.nob_drawing.specs.declared.shape.Shape.TheVariants as shapes
-use Rattle.nob_drawing.specs.Words.{entry_words, frame_label, mark_words, mark_rep, cut}
+use Rattle.nob_drawing.specs.Words.{entry_words, frame_label, lives_words, mark_words, mark_rep, cut}
 use Rattle.nob_drawing.specs.Glosses.{entry_gloss, is_empty}
 use Rattle.nob_drawing.specs.Titles.{title_words, shown_words, is_whole}
 
@@ -66,17 +68,17 @@ abbrev pub title_shapes : Page → List Shape
 title_shapes page = shapes.Text styles.Title (record { x = 12; y = 20 }) (title_words page) ∷ (if is_whole page then [] else shapes.Text styles.Shown (record { x = 12; y = 38 }) (shown_words page) ∷ [])
 
 -- the lifeline of a space
-abbrev pub life_line : Page → ℕ → Shape
-life_line page space = shapes.Line styles.Life (record { x = x_of space; y = 112 }) (record { x = x_of space; y = bottom_of page })
+abbrev pub lifeline : Page → ℕ → Shape
+lifeline page space = shapes.Line styles.Life (record { x = x_of space; y = 112 }) (record { x = x_of space; y = bottom_of page })
 
 -- its name
-abbrev pub life_name : ℕ → Shape
-life_name space = shapes.Text styles.Name (record { x = x_of space; y = 102 }) (codes "space " ++ decimal space)
+abbrev pub lifeline_name : ℕ → Shape
+lifeline_name space = shapes.Text styles.Name (record { x = x_of space; y = 102 }) (codes "space " ++ decimal space)
 
 -- the lifelines with their names of so many spaces, from this one on
-abbrev pub lives_from : Page → (space count : ℕ) → List Shape
-lives_from page space zero = []
-lives_from page space (suc count) = life_line page space ∷ life_name space ∷ lives_from page (space + 1) count
+abbrev pub lifelines_from : Page → (space count : ℕ) → List Shape
+lifelines_from page space zero = []
+lifelines_from page space (suc count) = lifeline page space ∷ lifeline_name space ∷ lifelines_from page (space + 1) count
 
 -- how a result is shown: as a close, as an answer, or refused
 abbrev pub result_style : Result Answer Refusal → Style
@@ -113,27 +115,27 @@ entry_glosses page row entry = gloss_shapes page row (length (entry_words entry)
 abbrev pub entry_dot : Page → (row number : ℕ) → Entry → Shape
 entry_dot page row number entry = shapes.Rectangle (entry_style page number entry) (record { x = x_of entry.space - 3; y = y_of page row - 3 }) 6 6
 
--- the number of an entry
-abbrev pub row_number : Page → (row number : ℕ) → Shape
-row_number page row number = shapes.Text styles.Number (record { x = 36; y = y_of page row + 4 }) (decimal number)
+-- the number of an entry, with the references of whose lives its row is part
+abbrev pub row_number : Page → (row number : ℕ) → List WireRep → Shape
+row_number page row number names = shapes.Noted styles.Number (record { x = 36; y = y_of page row + 4 }) (lives_words names) (decimal number)
 
 -- a faint line from the text of an entry to its lifeline
 abbrev pub guide : Page → ℕ → Entry → Shape
 guide page row entry = shapes.Line styles.Guide (record { x = 470; y = y_of page row }) (point_at page entry.space row)
 
--- the entry of a number at a row
-abbrev pub entry_shapes : Page → (row number : ℕ) → Entry → List Shape
-entry_shapes page row number entry = row_number page row number ∷ entry_text page row number entry ∷ guide page row entry ∷ entry_dot page row number entry ∷ entry_glosses page row entry
+-- the entry of a number at a row, which is part of the lives of these references
+abbrev pub entry_shapes : Page → (row number : ℕ) → List WireRep → Entry → List Shape
+entry_shapes page row number names entry = row_number page row number names ∷ entry_text page row number entry ∷ guide page row entry ∷ entry_dot page row number entry ∷ entry_glosses page row entry
 
 -- the entry of a number, where it has a row that is shown
-abbrev pub entry_at : Page → Option ℕ → (number : ℕ) → Entry → List Shape
-entry_at page None number entry = []
-entry_at page (Some row) number entry = if is_shown page row then entry_shapes page row number entry else []
+abbrev pub entry_at : Page → Option ℕ → (number : ℕ) → List WireRep → Entry → List Shape
+entry_at page None number names entry = []
+entry_at page (Some row) number names entry = if is_shown page row then entry_shapes page row number names entry else []
 
--- the entries of a journal that are shown, the rows of which are these
-abbrev pub entries_shapes : Page → List (Option ℕ) → List Entry → List Shape
-entries_shapes page places [] = []
-entries_shapes page places (entry ∷ J) = entries_shapes page places J ++ entry_at page (place_drawn places (row_after J)) (row_after J) entry
+-- the entries of a journal that are shown, where these are their rows, and the references of whose lives they are part
+abbrev pub entries_shapes : Page → List (Option ℕ) → List (List WireRep) → List Entry → List Shape
+entries_shapes page places lives [] = []
+entries_shapes page places lives (entry ∷ J) = entries_shapes page places lives J ++ entry_at page (place_drawn places (row_after J)) (row_after J) (names_at lives (row_after J)) entry
 
 -- how an arrow is drawn: thin where its item was given before, grey where it took nothing
 abbrev pub arrow_style : (again took_nothing : Bool) → Style
@@ -344,6 +346,6 @@ bar_shapes page bar = if is_seen page bar.start (end_of page bar.end) then bar_b
 abbrev pub flown : Page → List Arrow → List Departure → List Stray → List Shape
 flown page arrows lost strays = arrows_lines page arrows ++ (flat_map (lost_shapes page) lost ++ (flat_map (stray_shapes page) strays ++ arrows_words page arrows))
 
--- all that stands in a drawing of a journal, where rows, bars, arrows, lost frames and arrivals without an origin are these
-abbrev pub drawing : Page → List (Option ℕ) → List Bar → List Arrow → List Departure → List Stray → List Entry → List Shape
-drawing page places bars arrows lost strays J = title_shapes page ++ (lives_from page 1 page.n ++ (entries_shapes page places J ++ (flat_map (bar_shapes page) bars ++ flown page arrows lost strays)))
+-- all that stands in a drawing of a journal, where rows, of whose lives they are part, bars, arrows, lost frames and arrivals without an origin are these
+abbrev pub drawing : Page → List (Option ℕ) → List (List WireRep) → List Bar → List Arrow → List Departure → List Stray → List Entry → List Shape
+drawing page places lives bars arrows lost strays J = title_shapes page ++ (lifelines_from page 1 page.n ++ (entries_shapes page places lives J ++ (flat_map (bar_shapes page) bars ++ flown page arrows lost strays)))

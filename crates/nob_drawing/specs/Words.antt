@@ -1,6 +1,7 @@
 -- The words that stand in a drawing: of frames, entries and bars.
-use Rattle.std.specs.Prelude.{ℕ, ◌==◌, List, [], ◌∷◌, ◌++◌, length, take, nat_le, codes, Option, Some, None, Result, Ok, Err, if◌then◌else◌}
+use Rattle.std.specs.Prelude.{ℕ, ◌==◌, List, [], ◌∷◌, ◌++◌, length, take, flat_map, nat_le, codes, Option, Some, None, Result, Ok, Err, if◌then◌else◌}
 use Rattle.std.specs.Fmt.{decimal}
+use Rattle.nob_ids.specs.declared.wire_rep.WireRep.{WireRep}
 use Rattle.nob_frame.specs.declared.frame.Frame.{Frame}
 use Rattle.nob_frame.specs.declared.frame.FrameKind.{FrameKind}
 use Rattle.nob_frame.specs.declared.frame.FrameKind.TheVariants as kinds
@@ -137,6 +138,14 @@ abbrev pub mark_rep : Mark → List ℕ
 mark_rep (marks.Live rep) = rep_text rep
 mark_rep (marks.Listed rep client) = rep_text rep
 mark_rep (marks.Pinned rep peer session item) = rep_text rep
+
+-- a reference behind a space
+abbrev pub life_word : WireRep → List ℕ
+life_word rep = 32 ∷ rep_text rep
+
+-- the references of whose lives a row is part
+abbrev pub lives_words : List WireRep → List ℕ
+lives_words names = flat_map life_word names
 
 -- words that are too long are cut
 abbrev pub cut : (most : ℕ) → List ℕ → List ℕ

@@ -65,6 +65,10 @@ titled_start style corner width height = codes "<rect class='" ++ (class_name st
 abbrev pub text_start : Style → Point → List ℕ
 text_start style at = codes "<text class='" ++ (class_name style ++ (codes "' x='" ++ (decimal at.x ++ (codes "' y='" ++ (decimal at.y ++ codes "'>")))))
 
+-- what stands before a text with a note, up to the note
+abbrev pub noted_start : Style → Point → List ℕ
+noted_start style at = codes "<text class='" ++ (class_name style ++ (codes "' x='" ++ (decimal at.x ++ (codes "' y='" ++ (decimal at.y ++ codes "' data-lives='")))))
+
 -- what stands before a text that goes downwards
 abbrev pub turned_start : Style → Point → List ℕ
 turned_start style at = codes "<text class='" ++ (class_name style ++ (codes "' transform='translate(" ++ (decimal at.x ++ (codes " " ++ (decimal at.y ++ codes ") rotate(90)'>")))))
@@ -75,6 +79,7 @@ shape_text (shapes.Line style from to) = line_text style from to
 shape_text (shapes.Rectangle style corner width height) = rectangle_text style corner width height
 shape_text (shapes.Titled style corner width height words) = titled_start style corner width height ++ (escaped words ++ codes "</title></rect>\n")
 shape_text (shapes.Text style at words) = text_start style at ++ (escaped words ++ codes "</text>\n")
+shape_text (shapes.Noted style at note words) = noted_start style at ++ (escaped note ++ (codes "'>" ++ (escaped words ++ codes "</text>\n")))
 shape_text (shapes.Turned style at words) = turned_start style at ++ (escaped words ++ codes "</text>\n")
 
 -- the first line: how wide and how high the drawing is

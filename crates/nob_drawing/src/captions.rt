@@ -1,6 +1,6 @@
 //! The words of frames, entries and bars.
 
-ghost use Rattle.std.specs.Prelude.{◌≡◌, ◌++◌, ◌∷◌, IfOk, codes};
+ghost use Rattle.std.specs.Prelude.{◌≡◌, ◌++◌, ◌∷◌, IfOk, OnOk, codes};
 ghost use Rattle.std.specs.String.{string_bytes};
 ghost use Rattle.std.specs.Fmt.{decimal};
 ghost use Rattle.nob_model_text.specs.Events.{event_text as event_text_of};
@@ -235,6 +235,27 @@ fn pinned_words(alloc: Global, rep: WireRep, peer: SpaceId) -> Result<String, Al
 {
     let object = rep_text(alloc, rep)?;
     format!(in alloc; "{object} pinned for {peer}")
+}
+
+// Puts a reference behind a text and a space.
+fn put_life(alloc: Global, words: &mut Vec<u8>, rep: WireRep) -> Result<(), AllocError>
+    ensures { OnOk result (words.new.items ≡ words.old.items ++ spec.life_word rep) }
+{
+    let name = rep_text(alloc, rep)?;
+    words.push(b' ')?;
+    words.extend_from_slice(name.as_bytes())?;
+    Ok(())
+}
+
+// The references of whose lives a row is part.
+pub(crate) fn lives_words(alloc: Global, names: &[WireRep]) -> Result<Vec<u8>, AllocError>
+    ensures { IfOk result (λ words. words.items ≡ spec.lives_words names.now) }
+{
+    let mut words = Vec::new(alloc);
+    for name in names {
+        put_life(alloc, &mut words, *name)?;
+    }
+    Ok(words)
 }
 
 // The reference that a bar is of.

@@ -4,19 +4,21 @@ ghost use Rattle.std.specs.Prelude.{◌≡◌, ◌<◌, ◌+◌, ◌^◌, ◌++�
 ghost use Rattle.std.specs.String.{string_bytes};
 ghost use Rattle.nob_drawing.specs.Layout as spec;
 
-use crate::captions::entry_words;
+use crate::captions::{entry_words, lives_words};
 use crate::glosses::entry_gloss;
 use crate::labels::{cut_bytes, cut_label, label, number_label};
 use crate::page::Page;
 use crate::places::{bottom_of, column, is_shown, point_at, x_of, y_of};
 use crate::{Point, Shape, Style};
-use nob_drawing_choice::place_of;
+use nob_bytes::Bytes;
+use nob_drawing_choice::{Names, names_at, place_of};
+use nob_ids::WireRep;
 use nob_model_types::{Answer, Entry, Refusal};
 use std::alloc::{AllocError, Global};
 
 // The name of a space.
-fn life_name(alloc: Global, space: u32) -> Result<Shape, AllocError>
-    ensures { IfOk result (λ shape. shape ≡ spec.life_name space) }
+fn lifeline_name(alloc: Global, space: u32) -> Result<Shape, AllocError>
+    ensures { IfOk result (λ shape. shape ≡ spec.lifeline_name space) }
 {
     let text = format!(in alloc; "space {space}")?;
     let at = Point {
@@ -27,8 +29,8 @@ fn life_name(alloc: Global, space: u32) -> Result<Shape, AllocError>
 }
 
 // The lifeline of a space.
-fn life_line(page: &Page, space: u32) -> Shape
-    ensures { result ≡ spec.life_line page.now space }
+fn lifeline(page: &Page, space: u32) -> Shape
+    ensures { result ≡ spec.lifeline page.now space }
 {
     let x = column(space);
     let top = Point { x, y: 112 };
@@ -40,22 +42,22 @@ fn life_line(page: &Page, space: u32) -> Shape
 }
 
 // The lifelines with their names of so many spaces, from this one on.
-pub(crate) fn lives_from(
+pub(crate) fn lifelines_from(
     alloc: Global,
     page: &Page,
     space: u32,
     count: u32,
 ) -> Result<Vec<Shape>, AllocError>
     requires { space + count < 2 ^ 32 }
-    ensures { IfOk result (λ shapes. shapes.items ≡ spec.lives_from page.now space count) }
+    ensures { IfOk result (λ shapes. shapes.items ≡ spec.lifelines_from page.now space count) }
 {
     if count == 0 {
         return Ok(Vec::new(alloc));
     }
-    let mut shapes = lives_from(alloc, page, space + 1, count - 1)?;
-    let name = life_name(alloc, space)?;
+    let mut shapes = lifelines_from(alloc, page, space + 1, count - 1)?;
+    let name = lifeline_name(alloc, space)?;
     shapes.insert(0, name)?;
-    shapes.insert(0, life_line(page, space))?;
+    shapes.insert(0, lifeline(page, space))?;
     Ok(shapes)
 }
 
@@ -146,16 +148,23 @@ fn entry_dot(page: &Page, row: usize, number: usize, entry: &Entry) -> Shape
     Shape::Rectangle(entry_style(page, number, entry), corner, 6, 6)
 }
 
-// The number of an entry.
-fn row_number(alloc: Global, page: &Page, row: usize, number: usize) -> Result<Shape, AllocError>
-    ensures { IfOk result (λ shape. shape ≡ spec.row_number page.now row number) }
+// The number of an entry, with the references of whose lives its row is part.
+fn row_number(
+    alloc: Global,
+    page: &Page,
+    row: usize,
+    number: usize,
+    names: &[WireRep],
+) -> Result<Shape, AllocError>
+    ensures { IfOk result (λ shape. shape ≡ spec.row_number page.now row number names.now) }
 {
     let number = number_label(alloc, number)?;
+    let lives = lives_words(alloc, names)?;
     let at = Point {
         x: 36,
         y: y_of(page, row as u128) + 4,
     };
-    Ok(Shape::Text(Style::Number, at, number))
+    Ok(Shape::Noted(Style::Number, at, Bytes::from_vec(lives), number))
 }
 
 // The line from the text of an entry to its lifeline.
@@ -173,23 +182,24 @@ fn guide(page: &Page, row: usize, entry: &Entry) -> Shape
     )
 }
 
-// The entry of a number at a row.
+// The entry of a number at a row, which is part of the lives of these references.
 fn entry_shapes(
     alloc: Global,
     page: &Page,
     row: usize,
     number: usize,
+    names: &[WireRep],
     entry: &Entry,
 ) -> Result<Vec<Shape>, AllocError>
     ensures { IfOk result (λ shapes. shapes.items
-        ≡ spec.entry_shapes page.now row number entry.now) }
+        ≡ spec.entry_shapes page.now row number names.now entry.now) }
 {
     let words = entry_words(alloc, entry)?;
     let signs = words.len();
     let style = entry_style(page, number, entry);
     let mut gloss = gloss_shapes(alloc, page, row, signs, entry_gloss(alloc, entry)?)?;
     let mut shapes = Vec::new(alloc);
-    shapes.push(row_number(alloc, page, row, number)?)?;
+    shapes.push(row_number(alloc, page, row, number, names)?)?;
     shapes.push(entry_text(alloc, page, row, style, words)?)?;
     shapes.push(guide(page, row, entry))?;
     shapes.push(entry_dot(page, row, number, entry))?;
@@ -203,10 +213,11 @@ fn entry_at(
     page: &Page,
     row: Option<usize>,
     number: usize,
+    names: &[WireRep],
     entry: &Entry,
 ) -> Result<Vec<Shape>, AllocError>
     ensures { IfOk result (λ shapes. shapes.items
-        ≡ spec.entry_at page.now row number entry.now) }
+        ≡ spec.entry_at page.now row number names.now entry.now) }
 {
     let Some(row) = row else {
         return Ok(Vec::new(alloc));
@@ -214,7 +225,7 @@ fn entry_at(
     if !is_shown(page, row) {
         return Ok(Vec::new(alloc));
     }
-    entry_shapes(alloc, page, row, number, entry)
+    entry_shapes(alloc, page, row, number, names, entry)
 }
 
 // Shapes with those of the entry of a number, where it has a row that is shown.
@@ -223,33 +234,37 @@ fn with_entry(
     page: &Page,
     row: Option<usize>,
     number: usize,
+    names: &[WireRep],
     entry: &Entry,
     mut shapes: Vec<Shape>,
 ) -> Result<Vec<Shape>, AllocError>
     ensures { IfOk result (λ all. all.items
-        ≡ shapes.items ++ spec.entry_at page.now row number entry.now) }
+        ≡ shapes.items ++ spec.entry_at page.now row number names.now entry.now) }
 {
-    let mut more = entry_at(alloc, page, row, number, entry)?;
+    let mut more = entry_at(alloc, page, row, number, names, entry)?;
     shapes.append(&mut more)?;
     Ok(shapes)
 }
 
-// The entries of a journal that are shown, the rows of which are these.
+// The entries of a journal that are shown, where these are their rows, and the references of whose
+// lives they are part.
 pub(crate) fn entries_shapes(
     alloc: Global,
     page: &Page,
     places: &[Option<usize>],
+    lives: &[Names],
     journal: &[Entry],
 ) -> Result<Vec<Shape>, AllocError>
     ensures { IfOk result (λ shapes. shapes.items
-        ≡ spec.entries_shapes page.now places.now journal.now) }
+        ≡ spec.entries_shapes page.now places.now lives.now journal.now) }
 {
     let mut shapes = Vec::new(alloc);
     for passed in 0..journal.len() {
         let entry = &journal[journal.len() - 1 - passed];
         let number = passed + 1;
         let row = place_of(places, number);
-        shapes = with_entry(alloc, page, row, number, entry, shapes)?;
+        let names = names_at(lives, number);
+        shapes = with_entry(alloc, page, row, number, names, entry, shapes)?;
     }
     Ok(shapes)
 }

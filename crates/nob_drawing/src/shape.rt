@@ -87,6 +87,8 @@ pub enum Shape {
     Titled(Style, Point, u128, u128, Bytes),
     /// A text at a point.
     Text(Style, Point, Bytes),
+    /// A text at a point, behind a note that isn't shown: of whose lives a row is part.
+    Noted(Style, Point, Bytes, Bytes),
     /// A text that goes downwards from a point.
     Turned(Style, Point, Bytes),
 }

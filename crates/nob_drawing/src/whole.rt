@@ -6,7 +6,7 @@ ghost use Rattle.nob_drawing.specs.Layout as spec;
 use crate::Shape;
 use crate::arrows::{arrows_lines, arrows_words};
 use crate::bars::bars_shapes;
-use crate::entries::{entries_shapes, lives_from};
+use crate::entries::{entries_shapes, lifelines_from};
 use crate::losses::losses_shapes;
 use crate::page::Page;
 use crate::strays::strays_shapes;
@@ -41,17 +41,18 @@ pub fn drawing(
     journal: &[Entry],
 ) -> Result<Vec<Shape>, AllocError>
     ensures { IfOk result (λ shapes. shapes.items ≡ spec.drawing page.now plan.now.places.items
-        plan.now.bars.items plan.now.arrows.items plan.now.lost.items plan.now.strays.items
+        plan.now.lives.items plan.now.bars.items plan.now.arrows.items plan.now.lost.items plan.now.strays.items
         journal.now) }
 {
     let mut shapes = title_shapes(alloc, page)?;
-    let mut lives = lives_from(alloc, page, 1, u32::from(page.n))?;
-    let mut entries = entries_shapes(alloc, page, plan.places.as_slice(), journal)?;
+    let mut lifelines = lifelines_from(alloc, page, 1, u32::from(page.n))?;
+    let places = plan.places.as_slice();
+    let mut entries = entries_shapes(alloc, page, places, plan.lives.as_slice(), journal)?;
     let mut held = bars_shapes(alloc, page, plan.bars.as_slice())?;
     let mut others = flown(alloc, page, plan)?;
     held.append(&mut others)?;
     entries.append(&mut held)?;
-    lives.append(&mut entries)?;
-    shapes.append(&mut lives)?;
+    lifelines.append(&mut entries)?;
+    shapes.append(&mut lifelines)?;
     Ok(shapes)
 }

@@ -39,7 +39,7 @@ rect.fault { stroke: #d00000; stroke-width: 6; }
 .listed { fill: url(#hatched); }
 .pinned { fill: url(#striped); }
 .held { font-size: 8px; fill: #000; paint-order: stroke; stroke: #fff; stroke-width: 3px; stroke-opacity: 0.8; stroke-linejoin: round; }
-.words { fill: #1c4f9c; paint-order: stroke; stroke: #fff; stroke-width: 7px; stroke-linejoin: round; }
+.words { fill: #1c4f9c; paint-order: stroke; stroke: #fff; stroke-width: 11px; stroke-linejoin: round; }
 .before { text-anchor: end; }
 </style>
 <defs>
@@ -178,6 +178,16 @@ fn text_start(alloc: Global, style: Style, at: Point) -> Result<String, AllocErr
     format!(in alloc; "<text class='{class}' x='{x}' y='{y}'>")
 }
 
+// What stands before a text with a note, up to the note.
+fn noted_start(alloc: Global, style: Style, at: Point) -> Result<String, AllocError>
+    ensures { IfOk result (λ text. string_bytes text ≡ spec.noted_start style at) }
+{
+    let class = class_name(style);
+    let x = at.x;
+    let y = at.y;
+    format!(in alloc; "<text class='{class}' x='{x}' y='{y}' data-lives='")
+}
+
 // What stands before a text that goes downwards.
 fn turned_start(alloc: Global, style: Style, at: Point) -> Result<String, AllocError>
     ensures { IfOk result (λ text. string_bytes text ≡ spec.turned_start style at) }
@@ -197,6 +207,17 @@ fn put_words(text: &mut Vec<u8>, start: &[u8], words: &[u8]) -> Result<(), Alloc
     put_escaped(text, words)?;
     text.extend_from_slice(b"</text>\n")?;
     Ok(())
+}
+
+// Puts a text with its note, and with what stands before and behind them.
+fn put_noted(text: &mut Vec<u8>, start: &[u8], note: &[u8], words: &[u8]) -> Result<(), AllocError>
+    ensures { OnOk result (text.new.items ≡ text.old.items ++ (start.now
+        ++ (spec.escaped note.now ++ (codes "'>"
+        ++ (spec.escaped words.now ++ codes "</text>\n"))))) }
+{
+    text.extend_from_slice(start)?;
+    put_escaped(text, note)?;
+    put_words(text, b"'>", words)
 }
 
 // Puts a box with its words behind a text.
@@ -232,6 +253,10 @@ fn put_shape(alloc: Global, text: &mut Vec<u8>, shape: &Shape) -> Result<(), All
         Shape::Text(style, at, words) => {
             let start = text_start(alloc, *style, *at)?;
             put_words(text, start.as_bytes(), words.as_slice())
+        }
+        Shape::Noted(style, at, note, words) => {
+            let start = noted_start(alloc, *style, *at)?;
+            put_noted(text, start.as_bytes(), note.as_slice(), words.as_slice())
         }
         Shape::Turned(style, at, words) => {
             let start = turned_start(alloc, *style, *at)?;

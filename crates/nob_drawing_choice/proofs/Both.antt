@@ -1,5 +1,5 @@
 -- Both ends of a frame that is part of a choice are part of it, and so are the rows at which the bars of a life begin and end.
-use Rattle.std.proofs.Common.{◌≡◌, ◌∙◌, ℕ, ◌<◌, Bool, true, false, ◌||◌, List, [], ◌∷◌, ◌++◌, flat_map, Result, Ok, refl, sym, ap, subst, arith, true≢false}
+use Rattle.std.proofs.Common.{◌≡◌, ◌∙◌, ℕ, ◌<◌, Bool, true, false, cond, ◌||◌, List, [], ◌∷◌, ◌++◌, flat_map, Result, Ok, refl, sym, ap, subst, arith, true≢false}
 use Prim.Native.Nat.{zero, suc}
 use Rattle.std.specs.List.{list_any, Contains}
 use Rattle.nob_frame.specs.declared.frame.Frame.{Frame}
@@ -11,9 +11,10 @@ use Rattle.nob_model_types.specs.declared.refusal.Refusal.{Refusal}
 use Rattle.nob_model_types.specs.declared.entry.Entry.{Entry}
 use Rattle.nob_drawing_plan.specs.declared.bar.Bar.{Bar}
 use Rattle.nob_drawing_choice.specs.declared.choice.Choice.{Choice}
-use Rattle.nob_drawing_choice.specs.Naming.{names_of_frame, names_of_event, names_of_result}
-use Rattle.nob_drawing_choice.specs.Choices.{is_subject, is_with, brings, gives, turns_at}
-use Rattle.nob_drawing_choice.specs.Laws.{IsOfChoice, IsIn, BothEndsAreIn, TurnsAreIn}
+use Rattle.nob_drawing_choice.specs.Naming.{names_of_frame, names_of_event, names_of_result, names_in}
+use Rattle.nob_drawing_choice.specs.Lives.{subject_of, turns_at, turned_by, lives_at}
+use Rattle.nob_drawing_choice.specs.Choices.{is_subject, is_in_life, is_with, brings, gives}
+use Rattle.nob_drawing_choice.specs.Laws.{IsOfChoice, IsIn, BothEndsAreIn, TurnsAreIn, LifeIsOfRows}
 
 -- ---- tests
 
@@ -49,19 +50,29 @@ any_flat p f (y ∷ xs) x (suc k, less, is) e = any_right p (f y) (flat_map f xs
 
 -- ---- the laws
 
-pub turns_are_in : TurnsAreIn
-turns_are_in choice own bar row entry there turns = or_right _ _ (any_of (turns_at row) own bar there turns)
+-- the names of an entry are among those of its row
+named_in : (choice : Choice) (bars : List Bar) (row : ℕ) (entry : Entry) → list_any (is_subject choice) (names_in entry) ≡ true → is_in_life choice (lives_at bars row entry) ≡ true
+named_in choice bars row entry e = any_left (is_subject choice) (names_in entry) (flat_map (turned_by row) bars) e
 
-arrives_in : (choice : Choice) (own : List Bar) (row : ℕ) (entry : Entry) (frame : Frame) → IsOfChoice choice frame → entry.event ≡ Arrive frame → IsIn choice own row entry
-arrives_in choice own row entry frame of is = record {
-  life = or_left _ _ (any_left (is_subject choice) (names_of_event entry.space entry.event) (names_of_result entry.space entry.result)
+-- and so are the references of the bars that begin or end there
+turned_in : (choice : Choice) (bar : Bar) (row : ℕ) → is_subject choice (subject_of bar.mark) ≡ true → turns_at row bar ≡ true → list_any (is_subject choice) (turned_by row bar) ≡ true
+turned_in choice bar row own turns = ap (λ (here : Bool). list_any (is_subject choice) (cond here (subject_of bar.mark ∷ []) [])) turns ∙ or_left _ _ own
+
+pub turns_are_in : TurnsAreIn
+turns_are_in choice bars bar row entry there own turns =
+    any_right (is_subject choice) (names_in entry) (flat_map (turned_by row) bars)
+    (any_flat (is_subject choice) (turned_by row) bars bar there (turned_in choice bar row own turns))
+
+arrives_in : (choice : Choice) (bars : List Bar) (row : ℕ) (entry : Entry) (frame : Frame) → IsOfChoice choice frame → entry.event ≡ Arrive frame → IsIn choice bars row entry
+arrives_in choice bars row entry frame of is = record {
+  life = named_in choice bars row entry (any_left (is_subject choice) (names_of_event entry.space entry.event) (names_of_result entry.space entry.result)
       (subst (λ (event : Event). list_any (is_subject choice) (names_of_event entry.space event) ≡ true) (sym is) of.named));
   part = or_right _ _ (or_left _ _ (subst (λ (event : Event). brings choice event ≡ true) (sym is) of.goes));
 }
 
-given_in : (choice : Choice) (own : List Bar) (row : ℕ) (entry : Entry) (frame : Frame) (frames : List Frame) → IsOfChoice choice frame → entry.result ≡ Ok (Frames frames) → Contains frames frame → IsIn choice own row entry
-given_in choice own row entry frame frames of is there = record {
-  life = or_left _ _ (any_right (is_subject choice) (names_of_event entry.space entry.event) (names_of_result entry.space entry.result)
+given_in : (choice : Choice) (bars : List Bar) (row : ℕ) (entry : Entry) (frame : Frame) (frames : List Frame) → IsOfChoice choice frame → entry.result ≡ Ok (Frames frames) → Contains frames frame → IsIn choice bars row entry
+given_in choice bars row entry frame frames of is there = record {
+  life = named_in choice bars row entry (any_right (is_subject choice) (names_of_event entry.space entry.event) (names_of_result entry.space entry.result)
       (subst (λ (result : Result Answer Refusal). list_any (is_subject choice) (names_of_result entry.space result) ≡ true) (sym is)
       (any_flat (is_subject choice) names_of_frame frames frame there of.named)));
   part = or_right _ _ (or_right _ _ (subst (λ (result : Result Answer Refusal). gives choice result ≡ true) (sym is) (any_of (is_with choice) frames frame there of.goes)));
@@ -69,3 +80,6 @@ given_in choice own row entry frame frames of is there = record {
 
 pub both_ends_are_in : BothEndsAreIn
 both_ends_are_in = record { arrives = arrives_in; given = given_in }
+
+pub life_is_of_rows : LifeIsOfRows
+life_is_of_rows owner index lives row entry = refl

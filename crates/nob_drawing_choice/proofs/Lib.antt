@@ -1,2 +1,3 @@
 mod Placed
+mod Turned
 pub mod Both

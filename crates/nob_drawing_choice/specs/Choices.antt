@@ -1,5 +1,5 @@
 -- Which rows of a run are drawn. Rows count from 1 in merged order, and the newest entry of a journal stands FIRST.
-use Rattle.std.specs.Prelude.{ℕ, suc, Bool, true, false, ◌&&◌, ◌||◌, not, ◌==◌, List, [], ◌∷◌, ◌++◌, filter, Option, Some, None, is_some, Result, Ok, Err, if◌then◌else◌}
+use Rattle.std.specs.Prelude.{ℕ, suc, Bool, true, false, ◌&&◌, ◌||◌, not, ◌==◌, List, [], ◌∷◌, ◌++◌, Option, Some, None, is_some, Result, Ok, Err, if◌then◌else◌}
 use Rattle.std.specs.List.{list_any, list_all}
 use Rattle.nob_ids.specs.declared.wire_rep.WireRep.{WireRep}
 use Rattle.nob_frame.specs.Kinds.{is_ack}
@@ -10,12 +10,9 @@ use Rattle.nob_model_types.specs.declared.answer.Answer.{Answer}
 use Rattle.nob_model_types.specs.declared.answer.Answer.TheVariants.{Frames, Took}
 use Rattle.nob_model_types.specs.declared.refusal.Refusal.{Refusal}
 use Rattle.nob_model_types.specs.declared.entry.Entry.{Entry}
-use Rattle.nob_drawing_plan.specs.declared.mark.Mark.{Mark}
-use Rattle.nob_drawing_plan.specs.declared.mark.Mark.TheVariants as marks
-use Rattle.nob_drawing_plan.specs.declared.bar.Bar.{Bar}
 use Rattle.nob_drawing_plan.specs.Bars.{row_after}
 use Rattle.nob_drawing_choice.specs.declared.choice.Choice.{Choice}
-use Rattle.nob_drawing_choice.specs.Naming.{names_in}
+use Rattle.nob_drawing_choice.specs.Lives.{names_at}
 
 -- nothing is asked for: all rows
 abbrev pub all_rows : Choice
@@ -34,28 +31,9 @@ is_subject choice rep = is_asked choice.owner rep.owner && is_asked choice.index
 abbrev pub has_subject : Choice → Bool
 has_subject choice = is_some choice.owner || is_some choice.index
 
--- the reference that a mark is of
-abbrev pub subject_of : Mark → WireRep
-subject_of (marks.Live rep) = rep
-subject_of (marks.Listed rep client) = rep
-subject_of (marks.Pinned rep peer session item) = rep
-
--- the bars of the references whose life is asked for
-abbrev pub bars_of : Choice → List Bar → List Bar
-bars_of choice bars = filter (λ bar. is_subject choice (subject_of bar.mark)) bars
-
--- whether a row is the one at which a bar ends, if it does
-abbrev pub is_at : ℕ → Option ℕ → Bool
-is_at row None = false
-is_at row (Some end) = end == row
-
--- whether a bar begins or ends at a row
-abbrev pub turns_at : ℕ → Bar → Bool
-turns_at row bar = bar.start == row || is_at row bar.end
-
--- whether the entry at a row is part of the life that is asked for, whose bars these are: it names the reference, or a bar begins or ends there
-abbrev pub is_in_life : Choice → List Bar → ℕ → Entry → Bool
-is_in_life choice own row entry = list_any (is_subject choice) (names_in entry) || list_any (turns_at row) own
+-- whether an entry is part of the life that is asked for, where it is part of the lives of these references
+abbrev pub is_in_life : Choice → List WireRep → Bool
+is_in_life choice names = list_any (is_subject choice) names
 
 -- whether a frame is from or to the space that is asked for
 abbrev pub is_with : Choice → Frame → Bool
@@ -97,26 +75,26 @@ abbrev pub is_wrong : Option ℕ → ℕ → Bool
 is_wrong None row = false
 is_wrong (Some place) row = place == row
 
--- whether the entry at a row is drawn, where these are the bars of the life that is asked for: a wrong one always is
-abbrev pub is_chosen : Choice → Option ℕ → List Bar → ℕ → Entry → Bool
-is_chosen choice fault own row entry =
+-- whether the entry at a row is drawn, where each row is part of the lives of these references: a wrong one always is
+abbrev pub is_chosen : Choice → Option ℕ → List (List WireRep) → ℕ → Entry → Bool
+is_chosen choice fault lives row entry =
     is_wrong fault row
-    || (is_in_part choice entry && (not (choice.brief && is_small entry.event entry.result) && (not (has_subject choice) || is_in_life choice own row entry)))
+    || (is_in_part choice entry && (not (choice.brief && is_small entry.event entry.result) && (not (has_subject choice) || is_in_life choice (names_at lives row))))
 
 -- how many entries are drawn with the one at a row, after so many others
-abbrev pub count_behind : Choice → Option ℕ → List Bar → (row count : ℕ) → Entry → ℕ
-count_behind choice fault own row count entry = if is_chosen choice fault own row entry then suc count else count
+abbrev pub count_behind : Choice → Option ℕ → List (List WireRep) → (row count : ℕ) → Entry → ℕ
+count_behind choice fault lives row count entry = if is_chosen choice fault lives row entry then suc count else count
 
 -- how many entries of a journal are drawn
-abbrev pub count_chosen : Choice → Option ℕ → List Bar → List Entry → ℕ
-count_chosen choice fault own [] = 0
-count_chosen choice fault own (entry ∷ J) = count_behind choice fault own (row_after J) (count_chosen choice fault own J) entry
+abbrev pub count_chosen : Choice → Option ℕ → List (List WireRep) → List Entry → ℕ
+count_chosen choice fault lives [] = 0
+count_chosen choice fault lives (entry ∷ J) = count_behind choice fault lives (row_after J) (count_chosen choice fault lives J) entry
 
 -- the place of the entry at a row among those that are drawn, after so many others: none where it isn't
-abbrev pub place_behind : Choice → Option ℕ → List Bar → (row count : ℕ) → Entry → Option ℕ
-place_behind choice fault own row count entry = if is_chosen choice fault own row entry then Some (suc count) else None
+abbrev pub place_behind : Choice → Option ℕ → List (List WireRep) → (row count : ℕ) → Entry → Option ℕ
+place_behind choice fault lives row count entry = if is_chosen choice fault lives row entry then Some (suc count) else None
 
 -- the place of each row of a journal among those that are drawn, from 1, the first row first: none of a row that isn't
-abbrev pub places : Choice → Option ℕ → List Bar → List Entry → List (Option ℕ)
-places choice fault own [] = []
-places choice fault own (entry ∷ J) = places choice fault own J ++ place_behind choice fault own (row_after J) (count_chosen choice fault own J) entry ∷ []
+abbrev pub places : Choice → Option ℕ → List (List WireRep) → List Entry → List (Option ℕ)
+places choice fault lives [] = []
+places choice fault lives (entry ∷ J) = places choice fault lives J ++ place_behind choice fault lives (row_after J) (count_chosen choice fault lives J) entry ∷ []

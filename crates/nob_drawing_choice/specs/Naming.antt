@@ -17,15 +17,19 @@ use Rattle.nob_model_types.specs.declared.refusal.Refusal.{Refusal}
 use Rattle.nob_model_types.specs.declared.entry.Entry.{Entry}
 use Rattle.nob_model_types.specs.Sessions.{item_spelt}
 
+-- an object of a space
+abbrev pub object_of : (owner index : ℕ) → WireRep
+object_of owner index = record { owner = owner; index = index }
+
 -- an item from a to b names the object that it is about, and the references in its value
 abbrev pub names_of_item : (a b : ℕ) → Item → List WireRep
-names_of_item a b (items.Call call target method value) = record { owner = b; index = target } ∷ refs_in value
+names_of_item a b (items.Call call target method value) = object_of b target ∷ refs_in value
 names_of_item a b (items.Reply call status value) = refs_in value
 names_of_item a b (items.Settle item) = []
-names_of_item a b (items.Dirty index) = record { owner = b; index = index } ∷ []
-names_of_item a b (items.DirtyOk index) = record { owner = a; index = index } ∷ []
-names_of_item a b (items.DirtyNo index) = record { owner = a; index = index } ∷ []
-names_of_item a b (items.Clean index) = record { owner = b; index = index } ∷ []
+names_of_item a b (items.Dirty index) = object_of b index ∷ []
+names_of_item a b (items.DirtyOk index) = object_of a index ∷ []
+names_of_item a b (items.DirtyNo index) = object_of a index ∷ []
+names_of_item a b (items.Clean index) = object_of b index ∷ []
 
 -- what an item names, where there is one
 abbrev pub names_of_some : (a b : ℕ) → Option Item → List WireRep
@@ -60,7 +64,7 @@ names_of_event s (events.Finish job outcome) = names_of_outcome outcome
 names_of_event s (events.Act peer) = []
 names_of_event s events.Settle = []
 names_of_event s events.Clean = []
-names_of_event s (events.Withdraw index) = record { owner = s; index = index } ∷ []
+names_of_event s (events.Withdraw index) = object_of s index ∷ []
 names_of_event s (events.Transmit peer) = []
 names_of_event s (events.Arrive frame) = names_of_frame frame
 names_of_event s (events.Tick peer) = []
@@ -74,7 +78,7 @@ names_of_answer s answers.Done = []
 names_of_answer s (answers.Called call) = []
 names_of_answer s (answers.Replied status value) = refs_in value
 names_of_answer s answers.Ended = []
-names_of_answer s (answers.Job job) = record { owner = s; index = job.target } ∷ refs_in job.value
+names_of_answer s (answers.Job job) = object_of s job.target ∷ refs_in job.value
 names_of_answer s answers.Finished = []
 names_of_answer s answers.Dropped = []
 names_of_answer s (answers.Acted item) = []

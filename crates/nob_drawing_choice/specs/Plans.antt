@@ -1,5 +1,6 @@
 -- What is drawn of a plan: what has all its rows among those that are drawn, at their places.
 use Rattle.std.specs.Prelude.{ℕ, ◌-◌, Bool, ◌&&◌, List, length, take, filter, filter_map, slice_get, Option, Some, None, is_some, option_and_then, if◌then◌else◌}
+use Rattle.nob_ids.specs.declared.wire_rep.WireRep.{WireRep}
 use Rattle.nob_model_types.specs.declared.entry.Entry.{Entry}
 use Rattle.nob_drawing_plan.specs.declared.bar.Bar.{Bar}
 use Rattle.nob_drawing_plan.specs.declared.flight.Departure.{Departure}
@@ -8,7 +9,8 @@ use Rattle.nob_drawing_plan.specs.declared.flight.Stray.{Stray}
 use Rattle.nob_drawing_plan.specs.Bars.{bars}
 use Rattle.nob_drawing_plan.specs.Flights.{arrows, departures, lost, strays}
 use Rattle.nob_drawing_choice.specs.declared.choice.Choice.{Choice}
-use Rattle.nob_drawing_choice.specs.Choices.{is_asked, is_subject, subject_of, bars_of, places}
+use Rattle.nob_drawing_choice.specs.Lives.{subject_of, lives_of}
+use Rattle.nob_drawing_choice.specs.Choices.{is_asked, is_subject, places}
 
 -- the place of a row, if it is drawn
 abbrev pub place_of : List (Option ℕ) → ℕ → Option ℕ
@@ -79,9 +81,13 @@ bars_drawn choice all bars = filter_map (bar_drawn choice all) bars
 abbrev pub count_drawn : ℕ → List (Option ℕ) → ℕ
 count_drawn number all = length (filter is_some (take number all))
 
--- the places of the rows of a journal of n spaces, of which the entry at a row is wrong
+-- the references of whose lives each row of a journal of n spaces is part
+abbrev pub lives_in : ℕ → List Entry → List (List WireRep)
+lives_in n J = lives_of (bars n J) J
+
+-- the places of its rows, of which the entry at one is wrong
 abbrev pub places_in : ℕ → Choice → Option ℕ → List Entry → List (Option ℕ)
-places_in n choice fault J = places choice fault (bars_of choice (bars n J)) J
+places_in n choice fault J = places choice fault (lives_in n J) J
 
 -- what is drawn of its bars
 abbrev pub bars_in : ℕ → Choice → Option ℕ → List Entry → List Bar

@@ -3,7 +3,6 @@
 ghost use Rattle.std.specs.Prelude.{◌≡◌};
 ghost use Rattle.nob_drawing_choice.specs.Choices as spec;
 
-use nob_drawing_plan::Mark;
 use nob_frame::Frame;
 use nob_ids::WireRep;
 
@@ -75,17 +74,6 @@ pub(crate) fn has_subject(choice: &Choice) -> bool
     ensures { result ≡ spec.has_subject choice.now }
 {
     choice.owner.is_some() || choice.index.is_some()
-}
-
-// The reference that a mark is of.
-pub(crate) fn subject_of(mark: Mark) -> WireRep
-    ensures { result ≡ spec.subject_of mark }
-{
-    match mark {
-        Mark::Live(rep) => rep,
-        Mark::Listed(rep, _) => rep,
-        Mark::Pinned(rep, _, _, _) => rep,
-    }
 }
 
 // Whether a frame is from or to the space that is asked for.

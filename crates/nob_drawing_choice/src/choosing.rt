@@ -6,70 +6,20 @@ ghost use Rattle.nob_frame.specs.Kinds.{is_ack};
 ghost use Rattle.nob_frame.specs.declared.frame.Frame.{Frame as FrameOf};
 ghost use Rattle.nob_drawing_choice.specs.Choices as spec;
 
-use crate::choice::{Choice, has_subject, is_of_space, is_subject, is_with, subject_of};
-use crate::naming::names_in;
-use nob_drawing_plan::Bar;
+use crate::choice::{Choice, has_subject, is_of_space, is_subject, is_with};
+use crate::lives::names_at;
+use crate::names::Names;
 use nob_frame::Frame;
 use nob_ids::WireRep;
 use nob_model_types::{Answer, Entry, Event, Refusal};
 use std::alloc::{AllocError, Global};
 
-// The bars of the references whose life is asked for.
-pub(crate) fn bars_of(alloc: Global, choice: &Choice, bars: &[Bar]) -> Result<Vec<Bar>, AllocError>
-    ensures { IfOk result (λ own. own.items ≡ spec.bars_of choice.now bars.now) }
-{
-    let mut own = Vec::new(alloc);
-    for bar in bars {
-        if is_subject(choice, subject_of(bar.mark)) {
-            own.push(*bar)?;
-        }
-    }
-    Ok(own)
-}
-
-// Whether a row is the one at which a bar ends, if it does.
-fn is_at(row: usize, end: Option<usize>) -> bool
-    ensures { result ≡ spec.is_at row end }
-{
-    match end {
-        None => false,
-        Some(end) => end == row,
-    }
-}
-
-// Whether a bar begins or ends at a row.
-fn turns_at(row: usize, bar: &Bar) -> bool
-    ensures { result ≡ spec.turns_at row bar.now }
-{
-    bar.start == row || is_at(row, bar.end)
-}
-
-// Whether one of these bars begins or ends at a row.
-fn one_turns(row: usize, own: &[Bar]) -> bool
-    ensures { result ≡ list_any (spec.turns_at row) own.now }
-{
-    own.iter().any(|bar| turns_at(row, bar))
-}
-
-// Whether one of these references is one whose life is asked for.
-fn has_one(choice: &Choice, names: &[WireRep]) -> bool
-    ensures { result ≡ list_any (spec.is_subject choice.now) names.now }
+// Whether an entry is part of the life that is asked for, where it is part of the lives of these
+// references.
+fn is_in_life(choice: &Choice, names: &[WireRep]) -> bool
+    ensures { result ≡ spec.is_in_life choice.now names.now }
 {
     names.iter().any(|rep| is_subject(choice, *rep))
-}
-
-// Whether the entry at a row is part of the life that is asked for, whose bars these are.
-fn is_in_life(
-    alloc: Global,
-    choice: &Choice,
-    own: &[Bar],
-    row: usize,
-    entry: &Entry,
-) -> Result<bool, AllocError>
-    ensures { IfOk result (λ is. is ≡ spec.is_in_life choice.now own.now row entry.now) }
-{
-    let names = names_in(alloc, entry)?;
-    Ok(has_one(choice, names.as_slice()) || one_turns(row, own))
 }
 
 // Whether one of these frames is from or to the space that is asked for.
@@ -163,28 +113,18 @@ fn is_wrong(fault: Option<usize>, row: usize) -> bool
 
 // Whether the entry at a row is drawn.
 fn is_chosen(
-    alloc: Global,
     choice: &Choice,
     fault: Option<usize>,
-    own: &[Bar],
+    lives: &[Names],
     row: usize,
     entry: &Entry,
-) -> Result<bool, AllocError>
-    ensures { IfOk result (λ is. is ≡ spec.is_chosen choice.now fault own.now row entry.now) }
+) -> bool
+    ensures { result ≡ spec.is_chosen choice.now fault lives.now row entry.now }
 {
-    if is_wrong(fault, row) {
-        return Ok(true);
-    }
-    if !is_in_part(choice, entry) {
-        return Ok(false);
-    }
-    if choice.brief && is_small(&entry.event, &entry.result) {
-        return Ok(false);
-    }
-    if !has_subject(choice) {
-        return Ok(true);
-    }
-    is_in_life(alloc, choice, own, row, entry)
+    is_wrong(fault, row)
+        || (is_in_part(choice, entry)
+            && (!(choice.brief && is_small(&entry.event, &entry.result))
+                && (!has_subject(choice) || is_in_life(choice, names_at(lives, row)))))
 }
 
 // How many entries are drawn with the one at a row, after so many others, and the places with its
@@ -213,17 +153,17 @@ pub(crate) fn places(
     alloc: Global,
     choice: &Choice,
     fault: Option<usize>,
-    own: &[Bar],
+    lives: &[Names],
     journal: &[Entry],
 ) -> Result<Vec<Option<usize>>, AllocError>
     ensures { IfOk result (λ all. all.items
-        ≡ spec.places choice.now fault own.now journal.now) }
+        ≡ spec.places choice.now fault lives.now journal.now) }
 {
     let mut all = Vec::new(alloc);
     let mut count = 0usize;
     for passed in 0..journal.len() {
         let entry = &journal[journal.len() - 1 - passed];
-        let chosen = is_chosen(alloc, choice, fault, own, passed + 1, entry)?;
+        let chosen = is_chosen(choice, fault, lives, passed + 1, entry);
         let (more, longer) = with_place(chosen, count, all)?;
         count = more;
         all = longer;

@@ -5,8 +5,12 @@
 mod choice;
 mod choosing;
 pub mod laws;
+mod lives;
+mod names;
 mod naming;
 mod plan;
 
 pub use choice::Choice;
+pub use lives::names_at;
+pub use names::Names;
 pub use plan::{Plan, count_drawn, place_of, plan_of};

@@ -15,6 +15,13 @@ use nob_model_types::{Answer, Entry, Event, Outcome, Refusal};
 use nob_pickle::{Value, refs_of};
 use std::alloc::{AllocError, Global};
 
+// An object of a space.
+fn object_of(owner: SpaceId, index: u64) -> WireRep
+    ensures { result ≡ spec.object_of owner index }
+{
+    WireRep { owner, index }
+}
+
 // One reference.
 fn lone(alloc: Global, rep: WireRep) -> Result<Vec<WireRep>, AllocError>
     ensures { IfOk result (λ names. names.items ≡ rep ∷ []) }
@@ -48,33 +55,15 @@ fn names_of_item(
             target,
             method: _,
             value,
-        } => {
-            let rep = WireRep {
-                owner: to,
-                index: *target,
-            };
-            and_those_in(alloc, rep, value)
-        }
+        } => and_those_in(alloc, object_of(to, *target), value),
         Item::Reply {
             call: _,
             status: _,
             value,
         } => refs_of(alloc, value),
         Item::Settle(_) => Ok(Vec::new(alloc)),
-        Item::Dirty(index) | Item::Clean(index) => {
-            let rep = WireRep {
-                owner: to,
-                index: *index,
-            };
-            lone(alloc, rep)
-        }
-        Item::DirtyOk(index) | Item::DirtyNo(index) => {
-            let rep = WireRep {
-                owner: from,
-                index: *index,
-            };
-            lone(alloc, rep)
-        }
+        Item::Dirty(index) | Item::Clean(index) => lone(alloc, object_of(to, *index)),
+        Item::DirtyOk(index) | Item::DirtyNo(index) => lone(alloc, object_of(from, *index)),
     }
 }
 
@@ -141,13 +130,7 @@ fn names_of_event(alloc: Global, space: SpaceId, event: &Event) -> Result<Vec<Wi
             value,
         } => and_those_in(alloc, *target, value),
         Event::Finish(_, outcome) => names_of_outcome(alloc, outcome),
-        Event::Withdraw(index) => {
-            let rep = WireRep {
-                owner: space,
-                index: *index,
-            };
-            lone(alloc, rep)
-        }
+        Event::Withdraw(index) => lone(alloc, object_of(space, *index)),
         Event::Arrive(frame) => names_of_frame(alloc, frame),
         _ => Ok(Vec::new(alloc)),
     }
@@ -164,13 +147,7 @@ fn names_of_answer(
     match answer {
         Answer::Exported(rep) | Answer::Cleaned(rep) => lone(alloc, *rep),
         Answer::Replied(_, value) => refs_of(alloc, value),
-        Answer::Job(job) => {
-            let rep = WireRep {
-                owner: space,
-                index: job.target,
-            };
-            and_those_in(alloc, rep, &job.value)
-        }
+        Answer::Job(job) => and_those_in(alloc, object_of(space, job.target), &job.value),
         Answer::Frames(frames) => names_of_frames(alloc, frames.as_slice()),
         _ => Ok(Vec::new(alloc)),
     }

@@ -3,8 +3,10 @@
 ghost use Rattle.std.specs.Prelude.{◌≡◌, ◌-◌, IfOk, filter, filter_map, slice_get};
 ghost use Rattle.nob_drawing_choice.specs.Plans as spec;
 
-use crate::choice::{Choice, is_of_space, is_subject, subject_of};
-use crate::choosing::{bars_of, places};
+use crate::choice::{Choice, is_of_space, is_subject};
+use crate::choosing::places;
+use crate::lives::{lives_of, subject_of};
+use crate::names::Names;
 use nob_drawing_plan::{Arrow, Bar, Departure, Stray, bars, flights, lost};
 use nob_model_types::Entry;
 use std::alloc::{AllocError, Global};
@@ -13,6 +15,9 @@ use std::alloc::{AllocError, Global};
 /// rows that are drawn.
 #[derive(Debug, Drop)]
 pub struct Plan {
+    /// The references of whose lives each row of the run is part: those that its entry names, and
+    /// those whose bars begin or end there.
+    pub lives: Vec<Names>,
     /// The place of each row of the run among those that are drawn, from 1; none of a row that
     /// isn't.
     pub places: Vec<Option<usize>>,
@@ -213,8 +218,8 @@ fn bars_drawn(
 }
 
 /// What is drawn of a journal of so many spaces, the newest entry of which stands first, where the
-/// entry at a row is wrong. It costs what the plan costs, and then a step for each part of it; for
-/// a life, also a step for each of its bars at each entry that doesn't name its reference.
+/// entry at a row is wrong. It costs what the plan costs, and then a step for each part of it and
+/// for each reference that an entry names.
 pub fn plan_of(
     alloc: Global,
     n: u16,
@@ -222,6 +227,7 @@ pub fn plan_of(
     fault: Option<usize>,
     journal: &[Entry],
 ) -> Result<Plan, AllocError>
+    ensures lives { IfOk result (λ plan. plan.lives.items ≡ spec.lives_in n journal.now) }
     ensures places { IfOk result (λ plan. plan.places.items
         ≡ spec.places_in n choice.now fault journal.now) }
     ensures bars { IfOk result (λ plan. plan.bars.items
@@ -234,8 +240,8 @@ pub fn plan_of(
         ≡ spec.strays_in n choice.now fault journal.now) }
 {
     let held = bars(alloc, n, journal)?;
-    let own = bars_of(alloc, choice, held.as_slice())?;
-    let places = places(alloc, choice, fault, own.as_slice(), journal)?;
+    let lives = lives_of(alloc, held.as_slice(), journal)?;
+    let places = places(alloc, choice, fault, lives.as_slice(), journal)?;
     let flown = flights(alloc, journal)?;
     let all = places.as_slice();
     let losses = lost(alloc, flown.arrows.as_slice(), flown.departures.as_slice())?;
@@ -244,6 +250,7 @@ pub fn plan_of(
     let lost = departures_drawn(alloc, all, losses.as_slice())?;
     let strays = strays_drawn(alloc, all, flown.strays.as_slice())?;
     Ok(Plan {
+        lives,
         places,
         bars,
         arrows,

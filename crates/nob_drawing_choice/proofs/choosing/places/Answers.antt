@@ -8,8 +8,8 @@ loop-passed-preserved c =
     let journal = c.args.journal.now in
     let passed = c.loop-passed.passed in
     let entry = c.index-journal-journal.result in
-    let next = places_next c.args.choice.now c.args.fault c.args.own.now entry (drop (length journal - passed) journal) _ _ _ _ _ _ _
+    let next = places_next c.args.choice.now c.args.fault c.args.lives.now entry (drop (length journal - passed) journal) _ _ _ _ _ _ _
     (next_of journal passed entry c.loop-passed-test.true c.index-journal-journal.is)
     (row_of journal passed c.loop-passed-test.true)
-    c.loop-passed.invariant.0 c.loop-passed.invariant.1 c.in_ok-chosen.ensures c.in_ok-more.ensures.count c.in_ok-more.ensures.places in
+    c.loop-passed.invariant.0 c.loop-passed.invariant.1 c.is_chosen-chosen.ensures c.in_ok-more.ensures.count c.in_ok-more.ensures.places in
     (next.0, next.1, c.in_ok-more.ensures.bound)
