@@ -6,7 +6,7 @@ use denote.Struct.Declared.{shape}
 use Rattle.std.proofs.Crossing.{Vec-send}
 use Rattle.nob_keeper.proofs.Crossing.{record_send}
 use Rattle.nob_node.specs.contracts.running.Report as Report
-use Rattle.nob_node_site.proofs.Crossing.{left_send}
+pub use Rattle.nob_node_site.proofs.Crossing.{left_send}
 
 module _ (O : RattleType) (crossing : IsSend O) where
   pub report_send : IsSend (Report.the_field O).row

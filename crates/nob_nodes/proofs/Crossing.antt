@@ -4,7 +4,7 @@ use denote.Param.Send.{IsSend, IsSync, sendable, recorded_send, recorded_sync, s
 use denote.Struct.Declared.{shape}
 use denote.Struct.Struct.{Struct}
 use Rattle.std.proofs.Crossing.{crosses}
-use Rattle.nob_node.proofs.Crossing.{report_send}
+use Rattle.nob_node.proofs.Crossing.{left_send, report_send}
 use Rattle.nob_nodes.proofs.running.Turn.TheSendSync as turn
 use Rattle.nob_nodes.proofs.start.Start.TheSendSync as start
 use Rattle.nob_nodes.specs.contracts.player.Played as Played
@@ -16,7 +16,7 @@ module _ (O : RattleType) (crossing : IsSend O) where
       let T = Played.the_type O A in
       recorded_send (Struct (shape T)) T.D T.to T.to_one (struct_send (shape T) (
         search (crosses, sendable) depth 60 fits 20000,
-        (crosses_too, (search (report_send O crossing, crosses, sendable) depth 60 fits 20000, tt)),
+        (crosses_too, (search (report_send O crossing, left_send O crossing, crosses, sendable) depth 60 fits 20000, tt)),
       ))
 
   pub post_sync : (A : RattleType) → IsSend A → IsSync (Post.the_row O A)
