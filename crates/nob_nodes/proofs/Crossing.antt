@@ -1,28 +1,46 @@
 -- The threads of nodes share their places: what each takes from there and leaves there may go to another thread, where the application's objects and players may.
+use mathlib.Core.List.{[], ◌∷◌}
 use denote.RattleType.{RattleType}
 use denote.Param.Send.{IsSend, IsSync, sendable, recorded_send, recorded_sync, struct_send, struct_sync}
 use denote.Struct.Declared.{shape}
 use denote.Struct.Struct.{Struct}
-use Rattle.std.proofs.Crossing.{crosses}
-use Rattle.nob_node.proofs.Crossing.{left_send, report_send}
-use Rattle.nob_nodes.proofs.running.Turn.TheSendSync as turn
+use denote.Struct.Tuple.{Tuple, tuple_type}
+use Rattle.std.proofs.Crossing.{crosses, Vec-send}
+use Rattle.nob_keeper.proofs.Crossing.{record_send}
+use Rattle.nob_node.proofs.Crossing.{left_send}
+use Rattle.nob_node.proofs.error.NodeError.TheSendSync as node_error
+use Rattle.nob_node.specs.contracts.running.Report as Report
 use Rattle.nob_nodes.proofs.start.Start.TheSendSync as start
 use Rattle.nob_nodes.specs.contracts.player.Played as Played
 use Rattle.nob_nodes.specs.contracts.running.Post as Post
+use Rattle.nob_nodes.specs.contracts.start.Start as Start
 
-module _ (O : RattleType) (crossing : IsSend O) where
-  pub played_send : (A : RattleType) → IsSend A → IsSend (Played.the_row O A)
-  played_send A crosses_too =
+pair_send : (R S : RattleType) → IsSend R → IsSend S → IsSend (Tuple (R ∷ S ∷ []))
+pair_send R S one other =
+    let T = tuple_type (R ∷ S ∷ []) in
+    recorded_send (Struct (shape T)) T.D T.to T.to_one (struct_send (shape T) (one, (other, tt)))
+
+module _ (O : RattleType) (crossing : IsSend O) (A : RattleType) (crosses_too : IsSend A) where
+  report_send : IsSend (Report.the_row O)
+  report_send =
+      let T = Report.the_type O in
+      recorded_send (Struct (shape T)) T.D T.to T.to_one (struct_send (shape T) (record_send, (Vec-send _ (left_send O crossing), tt)))
+
+  turn_send : IsSend (Tuple (Start.the_row ∷ A ∷ []))
+  turn_send = pair_send Start.the_row A start.the_send crosses_too
+
+  pub played_send : IsSend (Played.the_row O A)
+  played_send =
       let T = Played.the_type O A in
       recorded_send (Struct (shape T)) T.D T.to T.to_one (struct_send (shape T) (
         search (crosses, sendable) depth 60 fits 20000,
-        (crosses_too, (search (report_send O crossing, left_send O crossing, crosses, sendable) depth 60 fits 20000, tt)),
+        (crosses_too, (search (report_send, pair_send _ _ node_error.the_send (Vec-send _ (left_send O crossing)), crosses, sendable) depth 60 fits 20000, tt)),
       ))
 
-  pub post_sync : (A : RattleType) → IsSend A → IsSync (Post.the_row O A)
-  post_sync A crosses_too =
+  pub post_sync : IsSync (Post.the_row O A)
+  post_sync =
       let T = Post.the_type O A in
       recorded_sync (Struct (shape T)) T.D T.to T.to_one (struct_sync (shape T) (
-        search (turn.the_send, start.the_send, crosses_too, crosses, sendable) depth 60 fits 20000,
-        (search (played_send, crosses_too, crosses, sendable) depth 60 fits 20000, tt),
+        search (turn_send, crosses, sendable) depth 60 fits 20000,
+        (search (played_send, crosses, sendable) depth 60 fits 20000, tt),
       ))

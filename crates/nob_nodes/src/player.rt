@@ -51,6 +51,18 @@ pub(crate) struct Playing<'m, A: Drop> {
     pub(crate) has_come: bool,
 }
 
+/// Skips a player that hasn't come, since there was no memory for its node: it leaves the meeting.
+pub(crate) fn skip_absent<O: Object, R: Wait, A: Player<O> + Drop>(
+    rt: &R,
+    playing: &mut Playing<'_, A>,
+) {
+    if !playing.has_come {
+        playing.has_come = true;
+        playing.player.skip(rt);
+        playing.company.leave(rt);
+    }
+}
+
 impl<'m, O: Object, A: Player<O> + Drop> App<O> for Playing<'m, A> {
     fn run<R: Wait>(&mut self, rt: &R, node: &mut Node<O>) {
         self.has_come = true;

@@ -16,17 +16,11 @@ use std::alloc::Global;
 use std::sync::{Mutex, Wait};
 use std::thread::{self, Threads};
 
-/// A node to be run, and who plays there.
-#[derive(Drop)]
-struct Turn<A: Drop> {
-    start: Start,
-    player: A,
-}
-
 /// The place of a node: what its thread is given, and what that leaves.
 #[derive(Drop)]
 struct Post<O: Object, A: Drop> {
-    turn: Mutex<Option<Turn<A>>>,
+    // The node to be run, and who plays there.
+    turn: Mutex<Option<(Start, A)>>,
     played: Mutex<Option<Played<O, A>>>,
 }
 
@@ -34,7 +28,7 @@ impl<O: Object + Send, A: Player<O> + Drop> Post<O, A> {
     // Runs the node until all players have returned.
     fn play<R: Threads + Wait + Sync, G: Gate + Sync>(&self, rt: &R, meeting: &Meeting, gate: &G) {
         match self.take_turn(rt) {
-            Some(Turn { start, player }) => {
+            Some((start, player)) => {
                 self.put_played(rt, start.play(rt, meeting, gate, player));
             }
             None => meeting.leave(rt),
@@ -44,7 +38,7 @@ impl<O: Object + Send, A: Player<O> + Drop> Post<O, A> {
     // Doesn't run it, for want of a thread.
     fn skip<R: Wait>(&self, rt: &R, meeting: &Meeting) {
         match self.take_turn(rt) {
-            Some(Turn { start, player }) => {
+            Some((start, player)) => {
                 self.put_played(rt, start.skip(rt, meeting, player));
             }
             None => meeting.leave(rt),
@@ -52,7 +46,7 @@ impl<O: Object + Send, A: Player<O> + Drop> Post<O, A> {
     }
 
     // What its thread is given, once.
-    fn take_turn<R: Wait>(&self, rt: &R) -> Option<Turn<A>> {
+    fn take_turn<R: Wait>(&self, rt: &R) -> Option<(Start, A)> {
         let mut turn = self.turn.lock(rt);
         turn.take()
     }
@@ -80,10 +74,18 @@ pub fn run_nodes<
     ensures all { IfSome result (λ all. length all.items ≡ length players.items) }
 {
     let alloc = nodes.alloc();
-    let count = u16::try_from(players.len()).ok()?;
-    let spaces = SpaceId::new(count)?;
-    let posts = posts_of::<O, A>(alloc, nodes.into_starts(), players)?;
-    let nothing = Vec::with_capacity(alloc, posts.len()).ok()?;
+    let Ok(count) = u16::try_from(players.len()) else {
+        return None;
+    };
+    let Some(spaces) = SpaceId::new(count) else {
+        return None;
+    };
+    let Some(posts) = posts_of::<O, A>(alloc, nodes.into_starts(), players) else {
+        return None;
+    };
+    let Ok(nothing) = Vec::with_capacity(alloc, posts.len()) else {
+        return None;
+    };
     let meeting = Meeting::new(u64::from(count));
     run_posts(rt, &meeting, gate, posts.as_slice(), beside);
     played_from(posts, 1, spaces, nothing)
@@ -100,7 +102,9 @@ fn posts_of<O: Object, A: Drop>(
     if starts.len() != players.len() {
         return None;
     }
-    let room = Vec::with_capacity(alloc, starts.len()).ok()?;
+    let Ok(room) = Vec::with_capacity(alloc, starts.len()) else {
+        return None;
+    };
     add_posts(starts, players, room)
 }
 
@@ -113,18 +117,17 @@ fn add_posts<O: Object, A: Drop>(
     requires { nothing.items ≡ [] }
     ensures { IfSome result (λ posts. length posts.items ≡ length players.items) }
 {
-    if starts.is_empty() || players.is_empty() {
-        return if players.is_empty() {
-            Some(nothing)
-        } else {
-            None
-        };
+    if players.is_empty() {
+        return Some(nothing);
+    }
+    if starts.is_empty() {
+        return None;
     }
     let start = starts.remove(0);
     let player = players.remove(0);
     let mut rest = add_posts(starts, players, nothing)?;
     let post = Post {
-        turn: Mutex::new(Some(Turn { start, player })),
+        turn: Mutex::new(Some((start, player))),
         played: Mutex::new(None),
     };
     rest.insert(0, post).ok()?;

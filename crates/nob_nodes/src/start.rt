@@ -3,7 +3,7 @@
 ghost use Rattle.std.specs.Prelude.{◌≡◌};
 
 use crate::meeting::{Company, Meeting};
-use crate::player::{Played, Player, Playing};
+use crate::player::{Played, Player, Playing, skip_absent};
 use nob_dispatch_objects::Object;
 use nob_ids::SpaceId;
 use nob_node::{Config, Ends, Gate, KeeperError, NodeError, run};
@@ -62,18 +62,16 @@ impl Start {
             company,
             has_come: false,
         };
+        let own = config;
         let left = run(rt, alloc, config, ends, gate, &mut playing);
+        skip_absent::<O, R, A>(rt, &mut playing);
         let Playing {
-            mut player,
-            company,
-            has_come,
+            player,
+            company: _,
+            has_come: _,
         } = playing;
-        if !has_come {
-            player.skip(rt);
-            company.leave(rt);
-        }
         Played {
-            config,
+            config: own,
             player,
             left,
         }
