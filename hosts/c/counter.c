@@ -62,6 +62,7 @@ int main(void) {
   NobTold told;
   if (nob_version() != NOB_VERSION) return 1;
   if (nob_new(&owner, 1, 2, 8, 16) != NOB_OK || nob_new(&caller, 2, 2, 8, 16) != NOB_OK) return 1;
+  if (nob_new(&owner, 1, 2, 8, 16) != NOB_KEEPS_ONE) return 1; /* and it stays */
   ASK(export, &owner);
   uint64_t counter = call(0, 1, pickle, 1); /* the caller holds 1.1 from here on */
   ASK(release, &owner, 1, counter);

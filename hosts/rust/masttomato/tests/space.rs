@@ -425,7 +425,7 @@ fn a_session_is_opened_anew_and_the_trace_says_so() {
 // A library of another version can't be linked here: so only what is said of one.
 #[test]
 fn a_library_of_another_version_is_said_to_be_that() {
-    let said = "the library nob_host that is linked has functions of version 1; this crate wants those of 3";
+    let said = "the library nob_host that is linked has functions of version 1; this crate wants those of 4";
     assert_eq!(SpaceError::OtherVersion(1).to_string(), said);
     assert_eq!(BirthError::OtherVersion(1).to_string(), said);
     assert_eq!(masttomato_sys::version(), masttomato_sys::VERSION);

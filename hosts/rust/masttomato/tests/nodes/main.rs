@@ -252,6 +252,10 @@ fn a_report_says_what_a_node_has() {
     let maker = one.export::<dyn Trouble>(Box::new(Maker(gate.clone()))).expect("room");
     one.bind("trouble", &maker).expect("a name");
     let maker: Remote<dyn Trouble> = two.lookup(id(1), "trouble").wait().expect("a maker");
+    let of_two = two.report().expect("it runs");
+    assert_eq!((of_two.of_space.surrogates, of_two.sessions[0].of_space.surrogates), (2, 2));
+    let line = "masttomato_session_surrogates{space=\"2\",peer=\"1\"} 2";
+    assert!(of_two.to_string().lines().any(|said| said == line), "{of_two}");
     let waits = maker.waits();
     eventually("a job is long there", || {
         let report = one.report().expect("it runs");
@@ -269,7 +273,7 @@ fn a_report_says_what_a_node_has() {
     two.close(id(1));
     let closed = two.report().expect("it runs").sessions[0];
     assert_eq!((closed.tally.closed, closed.unacknowledged), (Some(Reason::Asked), 0));
-    assert_eq!(closed.tally.session, 1);
+    assert_eq!((closed.tally.session, closed.of_space.surrogates), (1, 0));
 }
 
 // Each metric has its help and its kind before its values, once, and each value is a number.
