@@ -39,7 +39,7 @@ rect.fault { stroke: #d00000; stroke-width: 6; }
 .listed { fill: url(#hatched); }
 .pinned { fill: url(#striped); }
 .held { font-size: 8px; fill: #000; paint-order: stroke; stroke: #fff; stroke-width: 3px; stroke-opacity: 0.8; stroke-linejoin: round; }
-.words { fill: #1c4f9c; paint-order: stroke; stroke: #fff; stroke-width: 11px; stroke-linejoin: round; }
+.words { fill: #1c4f9c; paint-order: stroke; stroke: #fff; stroke-width: 8px; stroke-linejoin: round; word-spacing: -2px; }
 .before { text-anchor: end; }
 </style>
 <defs>

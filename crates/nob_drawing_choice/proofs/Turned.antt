@@ -128,10 +128,11 @@ pub entry_next : (entry : Entry) (J more : List Entry) (names : List WireRep) (l
 entry_next entry J more names lives after is were named put = rw (is, put, named, were) (ap (λ (all : List WireRep). lives_of [] J ++ all ∷ []) (sym (append-nil (names_in entry))))
 
 -- over the bars: one more of them
-pub bar_next : (bars : List Bar) (i : ℕ) (d : Bar) (J : List Entry) (lives after : List (List WireRep)) → i < length bars → lives ≡ lives_of (take i bars) J → after ≡ with_turns (get_or bars i d) lives → after ≡ lives_of (take (i + 1) bars) J
-bar_next bars i d J lives after less were put =
-    put ∙ ap (with_turns (get_or bars i d)) were ∙ sym (bar_more (take i bars) (get_or bars i d) J)
-    ∙ ap (λ (some : List Bar). lives_of some J) (sym (take_more bars i d less))
+pub bar_next : (bars : List Bar) (i : ℕ) (bar : Bar) (J : List Entry) (lives after : List (List WireRep)) → i < length bars → bar ≡ get_or bars i bar → lives ≡ lives_of (take i bars) J → after ≡ with_turns bar lives → after ≡ lives_of (take (i + 1) bars) J
+bar_next bars i bar J lives after less same were put =
+    put ∙ ap (with_turns bar) were ∙ sym (bar_more (take i bars) bar J)
+    ∙ ap (λ (b : Bar). lives_of (take i bars ++ b ∷ []) J) same
+    ∙ ap (λ (some : List Bar). lives_of some J) (sym (take_more bars i bar less))
 
 -- ---- a reference behind those of a row
 

@@ -121,10 +121,19 @@ fn is_chosen(
 ) -> bool
     ensures { result ≡ spec.is_chosen choice.now fault lives.now row entry.now }
 {
-    is_wrong(fault, row)
-        || (is_in_part(choice, entry)
-            && (!(choice.brief && is_small(&entry.event, &entry.result))
-                && (!has_subject(choice) || is_in_life(choice, names_at(lives, row)))))
+    if is_wrong(fault, row) {
+        return true;
+    }
+    if !is_in_part(choice, entry) {
+        return false;
+    }
+    if choice.brief && is_small(&entry.event, &entry.result) {
+        return false;
+    }
+    if !has_subject(choice) {
+        return true;
+    }
+    is_in_life(choice, names_at(lives, row))
 }
 
 // How many entries are drawn with the one at a row, after so many others, and the places with its

@@ -35,8 +35,8 @@ fn named(alloc: Global, journal: &[Entry]) -> Result<Vec<Names>, AllocError>
 }
 
 // Puts a reference behind those of a row, if there is that row.
-fn put_name(lives: &mut Vec<Names>, row: usize, rep: WireRep) -> Result<(), AllocError>
-    ensures { OnOk result (lives.new.items ≡ turns.with_name row rep lives.old.items) }
+fn put_name(lives: &mut Vec<Names>, row: usize, rep: &WireRep) -> Result<(), AllocError>
+    ensures { OnOk result (lives.new.items ≡ turns.with_name row rep.now lives.old.items) }
 {
     if row == 0 {
         return Ok(());
@@ -44,7 +44,7 @@ fn put_name(lives: &mut Vec<Names>, row: usize, rep: WireRep) -> Result<(), Allo
     if row > lives.len() {
         return Ok(());
     }
-    lives[row - 1].push(rep)?;
+    lives[row - 1].push(*rep)?;
     Ok(())
 }
 
@@ -54,9 +54,9 @@ fn put_end(
     lives: &mut Vec<Names>,
     start: usize,
     end: Option<usize>,
-    rep: WireRep,
+    rep: &WireRep,
 ) -> Result<(), AllocError>
-    ensures { OnOk result (lives.new.items ≡ turns.with_end start end rep lives.old.items) }
+    ensures { OnOk result (lives.new.items ≡ turns.with_end start end rep.now lives.old.items) }
 {
     let Some(end) = end else {
         return Ok(());
@@ -72,8 +72,8 @@ fn put_turns(lives: &mut Vec<Names>, bar: &Bar) -> Result<(), AllocError>
     ensures { OnOk result (lives.new.items ≡ turns.with_turns bar.now lives.old.items) }
 {
     let rep = subject_of(bar.mark);
-    put_name(lives, bar.start, rep)?;
-    put_end(lives, bar.start, bar.end, rep)
+    put_name(lives, bar.start, &rep)?;
+    put_end(lives, bar.start, bar.end, &rep)
 }
 
 // The references of whose lives each row of a journal is part, where these are all bars.

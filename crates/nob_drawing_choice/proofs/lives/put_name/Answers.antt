@@ -4,7 +4,7 @@ use Rattle.nob_drawing_choice.proofs.Turned.{put_past, put_there}
 use Rattle.nob_drawing_choice.proofs.lives.put_name.Goals as goal
 
 pub returns-then-row-len : goal.returns-then-row-len
-returns-then-row-len c = sym (put_past c.args.row c.args.rep c.args.lives.now.items (omega (arith, c.if-row-len.true, c.len.ensures)))
+returns-then-row-len c = sym (put_past c.args.row c.args.rep.now c.args.lives.now.items (omega (arith, c.if-row-len.true, c.len.ensures)))
 
 pub returns : goal.returns
 returns c =
@@ -12,4 +12,4 @@ returns c =
     let at = c.args.row - 1 in
     let less : at < length lives = omega (arith, c.if-row-eq0.false, c.if-row-len.false, c.len.ensures) in
     let got = slice_get_read lives (length lives) at c.index_mut.result.now refl less c.index_mut.ensures.value in
-    ap (slice_set lives at) c.in_ok-push.ensures ∙ put_there c.args.row c.args.rep lives c.index_mut.result.now (λ e. omega (arith, c.if-row-eq0.false, e)) got
+    ap (slice_set lives at) c.in_ok-push.ensures ∙ put_there c.args.row c.args.rep.now lives c.index_mut.result.now (λ e. omega (arith, c.if-row-eq0.false, e)) got
