@@ -133,8 +133,8 @@ fn give_back_each<O: Object, R: Wait>(rt: &R, node: &mut Node<O>, mut holds: Vec
     holds.destroy_empty();
 }
 
-/// Gives a hold back. Where memory is wanted it waits for some. Where that is refused, as the hold
-/// of another node is, or where the trace is full, the hold is forgotten. A session that has closed
+/// Gives a hold back. Where memory is wanted it waits for some. Where that is refused, as the hold of
+/// another node is, or where the trace is full, the hold is forgotten. A session that has closed
 /// refuses no release.
 pub fn give_back<O: Object, R: Wait>(
     rt: &R,

@@ -5,6 +5,7 @@ mod holds;
 mod partner;
 mod player;
 mod running;
+mod sides;
 
 pub use holds::{answer_to, give_back, give_back_all, look_up, offer, retire};
 pub use partner::Partner;

@@ -3,29 +3,31 @@
 ghost use Rattle.std.specs.Prelude.{◌≡◌, ◌-◌};
 
 use nob_ids::SpaceId;
-use nob_nodes::Company;
-use std::sync::Wait;
+use std::sync::{Barrier, Wait};
 
 /// The other player, as one of the two sees it.
 #[derive(Drop)]
-pub struct Partner<'m> {
-    company: Company<'m>,
+pub struct Partner<'b> {
+    barrier: &'b Barrier,
     // The space of its node.
     space: SpaceId,
     // How many meetings with it are left.
     left: u32,
+    // Whether the last meeting is over, at which neither has anything left to do.
+    is_over: bool,
 }
 
-impl<'m> Partner<'m> {
+impl<'b> Partner<'b> {
     // The player at the node of a space, with so many meetings.
-    pub(crate) fn new(company: Company<'m>, space: SpaceId, meetings: u32) -> Partner<'m>
+    pub(crate) fn new(barrier: &'b Barrier, space: SpaceId, meetings: u32) -> Partner<'b>
         ensures space { result.space ≡ space }
         ensures left { result.left ≡ meetings }
     {
         Partner {
-            company,
+            barrier,
             space,
             left: meetings,
+            is_over: false,
         }
     }
 
@@ -51,7 +53,20 @@ impl<'m> Partner<'m> {
     {
         if self.left > 0 {
             self.left -= 1;
-            let _ = self.company.meet(rt);
+            self.barrier.wait(rt);
         }
+    }
+
+    // Comes to each meeting that is left, and to the last. Once that is over nothing is done.
+    pub(crate) fn leave<R: Wait>(&mut self, rt: &R) {
+        if self.is_over {
+            return;
+        }
+        for _ in 0..self.left {
+            self.barrier.wait(rt);
+        }
+        self.left = 0;
+        self.is_over = true;
+        self.barrier.wait(rt);
     }
 }

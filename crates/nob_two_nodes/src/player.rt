@@ -2,9 +2,7 @@
 
 use crate::partner::Partner;
 use nob_dispatch_objects::Object;
-use nob_ids::SpaceId;
-use nob_node::{Node, Report};
-use nob_nodes::Company;
+use nob_node::{App, Node, Report};
 use std::sync::Wait;
 
 /// What an application does at one of two nodes, whose objects are of a type of its own.
@@ -23,17 +21,20 @@ pub struct Played<O: Object, A: Drop> {
     pub report: Report<O>,
 }
 
-/// A player with so many meetings with that of another space.
+/// A player at its node.
 #[derive(Drop)]
-pub(crate) struct Pairing<A: Drop> {
+pub(crate) struct Playing<'b, A: Drop> {
     pub(crate) player: A,
-    pub(crate) other: SpaceId,
-    pub(crate) meetings: u32,
+    pub(crate) partner: Partner<'b>,
 }
 
-impl<O: Object, A: Player<O> + Drop> nob_nodes::Player<O> for Pairing<A> {
-    fn run<R: Wait>(&mut self, rt: &R, node: &mut Node<O>, company: &Company) {
-        let mut partner = Partner::new(*company, self.other, self.meetings);
-        self.player.run(rt, node, &mut partner);
+impl<'b, O: Object, A: Player<O> + Drop> App<O> for Playing<'b, A> {
+    fn run<R: Wait>(&mut self, rt: &R, node: &mut Node<O>) {
+        self.player.run(rt, node, &mut self.partner);
+        self.partner.leave(rt);
+    }
+
+    fn skip<R: Wait>(&mut self, rt: &R) {
+        self.partner.leave(rt);
     }
 }

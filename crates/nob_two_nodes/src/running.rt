@@ -2,13 +2,12 @@
 
 ghost use denote.Param.Send.{IsSend, IsSync};
 
-use crate::player::{Pairing, Played, Player};
+use crate::player::{Played, Player};
+use crate::sides::{both_sides, run_side};
 use nob_dispatch_objects::Object;
-use nob_ids::SpaceId;
-use nob_node::{Keep, OpenGate};
-use nob_nodes::{Meeting, Nodes, Shape};
+use nob_node::Keep;
 use std::alloc::Global;
-use std::sync::Wait;
+use std::sync::{Barrier, Wait};
 use std::thread::{self, Threads};
 
 /// Runs two nodes, those of the spaces 1 and 2, each in a thread of its own, with a link each way,
@@ -44,14 +43,9 @@ pub fn run_two_keeping<
     first: A,
     second: B,
 ) -> Option<(Played<O, A>, Played<O, B>)> {
-    let nodes = Nodes::linked(alloc, Shape::new(keep), 2)?;
-    let mut starts = nodes.into_starts();
-    let theirs = starts.pop()?;
-    let ours = starts.pop()?;
-    let first = pairing(first, 2, meetings)?;
-    let second = pairing(second, 1, meetings)?;
-    let together = Meeting::new(2);
-    let meeting = &together;
+    let (ours, theirs) = both_sides(alloc, keep)?;
+    let together = Barrier::new(2);
+    let barrier = &together;
     let handle = rt;
     thread::scope(
         thread::scope_env(),
@@ -59,38 +53,19 @@ pub fn run_two_keeping<
         |scope|
             requires { IsSend O.row × IsSend A.row × IsSync R.row }
         {
-            let Ok(child) = scope.spawn(move || ours.play(rt, meeting, &OpenGate, first)) else {
+            let Ok(child) = scope.spawn(move || run_side(rt, ours, barrier, meetings, first)) else {
                 return None;
             };
-            let there = theirs.play(rt, meeting, &OpenGate, second);
+            let there = run_side(rt, theirs, barrier, meetings, second);
             both(child.join(rt), there)
         },
     )
 }
 
-// A player with so many meetings with that of a space.
-fn pairing<A: Drop>(player: A, other: u16, meetings: u32) -> Option<Pairing<A>> {
-    Some(Pairing {
-        player,
-        other: SpaceId::new(other)?,
-        meetings,
-    })
-}
-
-// Both players, where neither node failed.
+// Both players.
 fn both<O: Object, A: Drop, B: Drop>(
-    first: nob_nodes::Played<O, Pairing<A>>,
-    second: nob_nodes::Played<O, Pairing<B>>,
+    first: Option<Played<O, A>>,
+    second: Option<Played<O, B>>,
 ) -> Option<(Played<O, A>, Played<O, B>)> {
-    Some((played_of(first)?, played_of(second)?))
-}
-
-// A player whose node has ended, where that didn't fail.
-fn played_of<O: Object, A: Drop>(played: nob_nodes::Played<O, Pairing<A>>) -> Option<Played<O, A>> {
-    let nob_nodes::Played { player, left, .. } = played;
-    let Pairing { player, .. } = player;
-    match left {
-        Ok(report) => Some(Played { player, report }),
-        Err(_) => None,
-    }
+    Some((first?, second?))
 }
