@@ -118,7 +118,7 @@ impl Holder {
     // Keeps a reference, if there is one, by a hold more.
     fn keep(&mut self, rep: Option<WireRep>) -> Outcome {
         self.kept = rep;
-        match rep {
+        match self.kept {
             Some(rep) => Outcome::Dup(rep),
             None => Outcome::NoMethod,
         }
