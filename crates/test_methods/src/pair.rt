@@ -194,6 +194,9 @@ pub(crate) fn play<R: Threads + Wait + Sync>(rt: &R, alloc: Global) -> Option<Ve
     let gate = Counts::new();
     let played = run_nodes(rt, nodes, &gate, actors, &mut Nobody)?;
     let (remains, mut actors) = remains_of(alloc, played, 1)?;
+    if actors.is_empty() {
+        return None;
+    }
     let Actor { mut rows, .. } = actors.remove(0);
     say_made_again(remains.chains.get(1)?, &mut rows);
     say_end(alloc, remains, &gate, &mut rows)?;
