@@ -1,5 +1,5 @@
 -- Items in queues, as a contract sees them.
-use Rattle.std.specs.Prelude.{◌≡◌, ℕ, ◌==◌, false, if◌then◌else◌, List, [], ◌∷◌, ◌++◌, slice_get, slice_set, Option, Some, None, refl}
+use Rattle.std.specs.Prelude.{◌≡◌, ℕ, ◌==◌, false, List, [], ◌∷◌, slice_get, slice_set, Option, Some, None, refl}
 use Rattle.std.specs.Coded.{Coded, code_by, coded×, coded_ℕ, coded_list}
 use Rattle.std.specs.Map.{set_value}
 use Rattle.nob_slots.specs.Slots.{SlotList, slot_list_code, is_number}
@@ -41,25 +41,15 @@ module _ {T : Type 0} where
   abbrev pub room_at : QueueLists T → ℕ → ℕ
   room_at lists queue = (queue_at lists queue).room
 
-  -- a queue has these items, and every other one the same as before
-  abbrev pub PutsRows : QueueLists T → QueueLists T → ℕ → List (ℕ × T) → Type 0
-  PutsRows old new queue rows = (other : ℕ) → rows_at new other ≡ (if other == queue then rows else rows_at old other)
+  -- every queue but one is the same as before
+  abbrev pub SameOthers : (old new : QueueLists T) → ℕ → Type 0
+  SameOthers old new queue = (other : ℕ) → (other == queue) ≡ false → queue_at new other ≡ queue_at old other
 
-  -- every queue has the same items as before
-  abbrev pub SameRows : QueueLists T → QueueLists T → Type 0
-  SameRows old new = (queue : ℕ) → rows_at new queue ≡ rows_at old queue
-
-  -- every queue has the same marks as before
-  abbrev pub SameMarks : QueueLists T → QueueLists T → Type 0
-  SameMarks old new = (queue : ℕ) → marked_at new queue ≡ marked_at old queue
-
-  -- every queue but one has the same marks as before
-  abbrev pub SameOtherMarks : QueueLists T → QueueLists T → ℕ → Type 0
-  SameOtherMarks old new queue = (other : ℕ) → (other == queue) ≡ false → marked_at new other ≡ marked_at old other
-
-  -- every queue has room for as many items as before
-  abbrev pub SameRooms : QueueLists T → QueueLists T → Type 0
-  SameRooms old new = (queue : ℕ) → room_at new queue ≡ room_at old queue
+  -- every queue but one is the same as before, and for as many items as before there is room, in that one too
+  pub record KeepsBut (old new : QueueLists T) (queue : ℕ) : Type 0 where
+    pub others : SameOthers old new queue
+    pub queue_room : room_at new queue ≡ room_at old queue
+    pub room : new.room ≡ old.room
 
   -- an item under a number, if there is one
   abbrev pub row_if : ℕ → Option T → List (ℕ × T)

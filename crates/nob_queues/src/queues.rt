@@ -1,11 +1,11 @@
 //! The queues.
 
-ghost use Rattle.std.specs.Prelude.{◌≡◌, ℕ, ◌+◌, ◌-◌, ◌<◌, ◌≤◌, ◌++◌, ◌∷◌, ◌^◌, ◌==◌, [], false, true, length, option_copied, IsOk, IsSome, OnOk, MatchOption, IfSome, Some, None, if◌then◌else◌};
+ghost use Rattle.std.specs.Prelude.{◌≡◌, ℕ, ◌+◌, ◌-◌, ◌<◌, ◌≤◌, ◌++◌, ◌∷◌, ◌^◌, ◌==◌, [], false, true, length, option_copied, IsOk, IsSome, OnOk, MatchOption, IfSome, Some, None};
 ghost use Rattle.std.specs.Borrow.{sem};
 ghost use Rattle.std.specs.Map.{remove_entry};
 ghost use Rattle.nob_slots.specs.Slots.{item_at, is_number, is_marked, IsAbove, IsFirstMarked, IsRising, NoneMarked, PutsMark};
 ghost use Rattle.nob_queues.specs.Keys.{Stands};
-ghost use Rattle.nob_queues.specs.Queues.{PutsRows, SameMarks, SameOtherMarks, SameRooms, SameRows, marked_at, room_at, row_if, rows_at};
+ghost use Rattle.nob_queues.specs.Queues.{KeepsBut, SameOthers, marked_at, queue_at, room_at, row_if, rows_at};
 
 use nob_slots::Slots;
 use slab::Slab;
@@ -102,15 +102,17 @@ impl<T> Queues<T> {
         Ok(())
     }
 
-    /// Makes room in a queue for so many more items, beside the room for them. Only memory fails it, and the
-    /// queues have the same items and marks in any case. Constant time on average; no item moves.
+    /// Makes room in a queue for so many more items, beside the room for them. Only memory fails it,
+    /// and the queue has the same items and marks in any case. Constant time on average; no item
+    /// moves.
     pub fn widen(&mut self, queue: usize, additional: usize) -> Result<(), AllocError>
         requires { queue < 3 }
-        ensures rows { SameRows self.old self.new }
-        ensures marks { SameMarks self.old self.new }
+        ensures rows { rows_at self.new queue ≡ rows_at self.old queue }
+        ensures marked { marked_at self.new queue ≡ marked_at self.old queue }
+        ensures others { SameOthers self.old self.new queue }
         ensures ok { OnOk result (additional ≤ room_at self.new queue) }
         ensures succeeds { additional ≤ room_at self.old queue → IsOk result }
-        ensures rooms { (other : ℕ) → room_at self.old other ≤ room_at self.new other }
+        ensures queue_room { room_at self.old queue ≤ room_at self.new queue }
         ensures room { self.new.room ≡ self.old.room }
     {
         self.queues[queue].reserve(additional)
@@ -123,11 +125,10 @@ impl<T> Queues<T> {
         requires room { 0 < self.old.room }
         requires queue_room { 0 < room_at self.old queue }
         requires above { IsAbove (rows_at self.old queue) number }
-        ensures rows { PutsRows self.old self.new queue
-            (rows_at self.old queue ++ (number, item) ∷ []) }
-        ensures marks { SameMarks self.old self.new }
-        ensures rooms { (other : ℕ) → room_at self.new other
-            + (if other == queue then 1 else 0) ≡ room_at self.old other }
+        ensures rows { rows_at self.new queue ≡ rows_at self.old queue ++ (number, item) ∷ [] }
+        ensures marked { marked_at self.new queue ≡ marked_at self.old queue }
+        ensures others { SameOthers self.old self.new queue }
+        ensures queue_room { room_at self.new queue + 1 ≡ room_at self.old queue }
         ensures room { self.new.room + 1 ≡ self.old.room }
     {
         let key = self.items.insert_reserved(item);
@@ -163,11 +164,9 @@ impl<T> Queues<T> {
     pub fn mark(&mut self, queue: usize, number: u64, on: bool)
         requires queue { queue < 3 }
         requires there { IsSome (item_at (rows_at self.old queue) number) }
-        ensures rows { SameRows self.old self.new }
+        ensures rows { rows_at self.new queue ≡ rows_at self.old queue }
         ensures marked { PutsMark (marked_at self.old queue) (marked_at self.new queue) number on }
-        ensures marks { SameOtherMarks self.old self.new queue }
-        ensures rooms { SameRooms self.old self.new }
-        ensures room { self.new.room ≡ self.old.room }
+        ensures kept { KeepsBut self.old self.new queue }
     {
         self.queues[queue].mark(number, on);
     }
@@ -188,12 +187,10 @@ impl<T> Queues<T> {
     pub fn take(&mut self, queue: usize, number: u64) -> Option<T>
         requires { queue < 3 }
         ensures item { result ≡ item_at (rows_at self.old queue) number }
-        ensures rows { PutsRows self.old self.new queue
-            (remove_entry (is_number number) (rows_at self.old queue)) }
+        ensures rows { rows_at self.new queue
+            ≡ remove_entry (is_number number) (rows_at self.old queue) }
         ensures marked { PutsMark (marked_at self.old queue) (marked_at self.new queue) number false }
-        ensures marks { SameOtherMarks self.old self.new queue }
-        ensures rooms { SameRooms self.old self.new }
-        ensures room { self.new.room ≡ self.old.room }
+        ensures kept { KeepsBut self.old self.new queue }
     {
         let Some(key) = self.queues[queue].take(number) else {
             return None;
@@ -201,24 +198,25 @@ impl<T> Queues<T> {
         self.items.try_remove(key)
     }
 
-    /// Takes the item of a number from a queue to another one, where it stands behind all others
-    /// under a number above theirs, unmarked. The item stays where it is. It takes no memory.
-    /// Logarithmic in the queue that it leaves, and on average constant time beside that.
+    /// Takes the item of a number from a queue to another one, if it is there: it stands behind all
+    /// others there, under a number above theirs, unmarked. The item stays where it is. It takes no
+    /// memory. Logarithmic in the queue that it leaves, and on average constant time beside that.
     pub fn shift(&mut self, queue: usize, number: u64, to: usize, under: u64)
         requires queue { queue < 3 }
         requires to { to < 3 }
         requires apart { (to == queue) ≡ false }
         requires queue_room { 0 < room_at self.old to }
         requires above { IsAbove (rows_at self.old to) under }
-        ensures rows { (other : ℕ) → rows_at self.new other
-            ≡ (if other == queue then remove_entry (is_number number) (rows_at self.old queue)
-            else if other == to
-            then rows_at self.old to ++ row_if under (item_at (rows_at self.old queue) number)
-            else rows_at self.old other) }
+        ensures from { rows_at self.new queue
+            ≡ remove_entry (is_number number) (rows_at self.old queue) }
+        ensures to { rows_at self.new to ≡ rows_at self.old to
+            ++ row_if under (item_at (rows_at self.old queue) number) }
         ensures marked { PutsMark (marked_at self.old queue) (marked_at self.new queue) number false }
-        ensures marks { SameOtherMarks self.old self.new queue }
-        ensures rooms { (other : ℕ) → room_at self.old other
-            ≤ room_at self.new other + (if other == to then 1 else 0) }
+        ensures marked_to { marked_at self.new to ≡ marked_at self.old to }
+        ensures others { (other : ℕ) → (other == queue) ≡ false → (other == to) ≡ false
+            → queue_at self.new other ≡ queue_at self.old other }
+        ensures queue_room { room_at self.new queue ≡ room_at self.old queue }
+        ensures room_to { room_at self.old to ≤ room_at self.new to + 1 }
         ensures room { self.new.room ≡ self.old.room }
     {
         let Some(key) = self.queues[queue].take(number) else {
