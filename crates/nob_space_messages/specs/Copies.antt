@@ -1,7 +1,7 @@
 -- How many copies of each owner's references the messages carry.
 use Rattle.std.specs.Prelude.{◌≡◌, ℕ, ◌+◌, ◌≤◌, List, [], ◌∷◌, length, filter, get_or}
 use Rattle.nob_model_types.specs.declared.message.Message.{Message}
-use Rattle.nob_space_waiting.specs.Waiting.{is_copy_of}
+use Rattle.nob_space_messages.specs.Waiting.{is_copy_of}
 
 -- the count of an owner among the counts by number
 abbrev pub count_at : List ℕ → ℕ → ℕ

@@ -2,9 +2,9 @@
 use Rattle.std.specs.Prelude.{◌≡◌, ℕ, ◌+◌, ◌<◌, ◌≤◌, ◌==◌, Bool, true, false, ◌&&◌, List, Option, Some, None, IsSome, is_some, if◌then◌else◌}
 use Rattle.std.specs.Option.{option_map, unwrap_or}
 use Rattle.nob_slots.specs.Slots.{item_at, is_marked}
-use Rattle.nob_space_jobs.specs.declared.lanes.Lane.{Lane}
-use Rattle.nob_space_jobs.specs.declared.links.Link.{Link}
-use Rattle.nob_space_jobs.specs.Lanes.{lane_at}
+use Rattle.nob_space_messages.specs.declared.lanes.Lane.{Lane}
+use Rattle.nob_space_messages.specs.declared.links.Link.{Link}
+use Rattle.nob_space_messages.specs.Lanes.{lane_at}
 
 -- the target of the job under a stamp
 abbrev pub target_at : List (ℕ × Link) → ℕ → Option ℕ

@@ -5,11 +5,13 @@ use Rattle.nob_model_types.specs.declared.message.Message.{Message}
 use Rattle.nob_model_work.specs.declared.work.Run.{Run}
 use Rattle.nob_model_acting.specs.Candidates.{target_of}
 
--- the ready jobs, in order of becoming ready, the jobs that run, the newest first, and how many more of each fit without memory
+-- the ready jobs, in order of becoming ready, the jobs that run, the newest first, and how many more of each fit without memory; of the
+-- ready ones also how many that wait
 pub record JobLists : Type 0 where
   pub ready : List Message
   pub running : List Run
   pub ready_room : ℕ
+  pub settled_room : ℕ
   pub running_room : ℕ
 
 -- whether one of these jobs has a target

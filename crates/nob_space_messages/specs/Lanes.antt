@@ -1,8 +1,11 @@
 -- A lane for each target: how many jobs of it run, and which of its ready jobs come first and last. No public clause cites this module.
-use Rattle.std.specs.Prelude.{◌≡◌, ℕ, ◌==◌, Bool, not, ◌||◌, List, Option, Some, None, is_some, map, if◌then◌else◌}
+use Rattle.std.specs.Prelude.{◌≡◌, ℕ, ◌==◌, Bool, not, ◌||◌, List, Option, Some, None, is_some, if◌then◌else◌}
 use Rattle.std.specs.Map.{lookup}
-use Rattle.nob_space_jobs.specs.Ready.{is_target}
-use Rattle.nob_space_jobs.specs.declared.lanes.Lane.{Lane}
+use Rattle.nob_space_messages.specs.declared.lanes.Lane.{Lane}
+
+-- whether a target is the same as another
+abbrev pub is_target : ℕ → ℕ → Bool
+is_target target other = target == other
 
 -- the lanes by target, and how many more fit without memory
 pub record LaneList : Type 0 where
@@ -29,10 +32,6 @@ if_used lane = if is_used lane then Some lane else None
 abbrev pub runs_in : Option Lane → ℕ
 runs_in None = 0
 runs_in (Some lane) = lane.runs
-
--- how many jobs of each target run
-abbrev pub runs_of : List (ℕ × Lane) → List (ℕ × ℕ)
-runs_of rows = map (λ row. (row.0, row.1.runs)) rows
 
 -- a lane of no jobs
 abbrev pub no_jobs : Lane

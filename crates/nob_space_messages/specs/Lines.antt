@@ -10,10 +10,10 @@ use Rattle.nob_model_types.specs.declared.message.Message.{Message}
 use Rattle.nob_slots.specs.Numbers.{NumberLists, numbers_of}
 use Rattle.nob_rows.specs.Rows.{row_at}
 use Rattle.nob_slots.specs.Slots.{item_at, is_number, IsAbove, IsRising, is_marked}
-use Rattle.nob_space_waiting.specs.declared.entry.Entry.{Entry}
-use Rattle.nob_space_waiting.specs.declared.owner_lines.Line.{Line}
-use Rattle.nob_space_waiting.specs.declared.owner_lines.Place.{Place}
-use Rattle.nob_space_waiting.specs.Waiting.{due_to, granted_message, is_awaited, is_due_where}
+use Rattle.nob_space_messages.specs.declared.entry.Entry.{Entry}
+use Rattle.nob_space_messages.specs.declared.owner_lines.Line.{Line}
+use Rattle.nob_space_messages.specs.declared.owner_lines.Place.{Place}
+use Rattle.nob_space_messages.specs.Waiting.{due_to, granted_message, is_awaited, is_due_where}
 
 -- the lines of some references: the number of each and how many places it has, and who stands at each place
 pub record LineMap : Type 0 where

@@ -2,8 +2,7 @@
 
 ghost use Rattle.std.specs.Prelude.{◌≡◌, ℕ, ◌+◌, ◌<◌, ◌≤◌, ◌^◌, [], IsOk, IsSome, None, Some, Option, OnOk, if◌then◌else◌};
 ghost use Rattle.nob_slots.specs.Slots.{IsAbove};
-ghost use Rattle.nob_space_messages.specs.Ready.{is_target};
-ghost use Rattle.nob_space_messages.specs.Lanes.{lane_at, or_no_jobs, runs_in};
+ghost use Rattle.nob_space_messages.specs.Lanes.{is_target, lane_at, or_no_jobs, runs_in};
 ghost use Rattle.nob_space_messages.specs.InLine.{AreLinked, first_or, lane_taken, target_at, with_at};
 
 use crate::lanes::{Lane, Lanes, last_of};
