@@ -1,3 +1,4 @@
 pub mod Found
 pub mod Keyed
 pub mod Kept
+pub mod Writes

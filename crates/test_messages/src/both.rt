@@ -24,6 +24,7 @@ enum Answer {
 }
 
 /// The messages of a space as the two crates have them, and as the one has them.
+#[derive(Drop)]
 pub struct Both {
     alloc: Global,
     waiting: Waiting,
@@ -34,6 +35,8 @@ pub struct Both {
     // How many messages came, and how many jobs were claimed.
     came: u64,
     claimed: u64,
+    // Whether a count of loans was another.
+    differs: bool,
 }
 
 fn space(number: u64) -> SpaceId {
@@ -53,6 +56,7 @@ impl Both {
             answers: [[Answer::ToCome; 64]; 4],
             came: 0,
             claimed: 0,
+            differs: false,
         }
     }
 
@@ -168,9 +172,7 @@ impl Both {
             self.set_answer(rep, Answer::Granted);
             let first = self.waiting.lend(rep);
             let second = self.messages.lend(rep);
-            if first != second {
-                self.came += 1_000_000;
-            }
+            self.differs |= first != second;
         }
     }
 
@@ -269,6 +271,6 @@ impl Both {
 
     /// Whether both look alike.
     pub fn is_alike(&self) -> bool {
-        self.old_look() == self.new_look()
+        !self.differs && self.old_look() == self.new_look()
     }
 }

@@ -1,6 +1,7 @@
 //! Numbers that a seed gives.
 
 /// Numbers one after the other.
+#[derive(Drop)]
 pub struct Drawn {
     last: u64,
 }
