@@ -1,6 +1,6 @@
 use Rattle.std.proofs.Common.{ℕ, ◌&&◌, ◌==◌, not, refl, sym, subst, ◌∙◌}
 use Rattle.nob_pins.specs.Bundles.{TakesOutAll}
-use Rattle.nob_space_waiting.specs.Waiting.{is_awaited}
+use Rattle.nob_space_messages.specs.Waiting.{is_awaited}
 use Rattle.nob_space_holds.specs.Returns.{lent_from}
 use Rattle.nob_space_state.specs.Closing.{ClosesDown}
 use Rattle.nob_space_state.specs.Parts.{state_of}
@@ -29,7 +29,7 @@ returns-clause-closes c =
       sessions = refl;
       table = record {
         back = c.throw_ready_away.new.table;
-        gives = back_then c.args.self.now.table c.throw_waiting_away.new.table c.throw_ready_away.new.table (lent_from c.args.self.now.here.space c.peer-peer.result c.args.self.now.waiting.items) (lent_from c.args.self.now.here.space c.peer-peer.result c.args.self.now.jobs.ready) c.throw_waiting_away.ensures.back c.throw_ready_away.ensures.back;
+        gives = back_then c.args.self.now.table c.throw_waiting_away.new.table c.throw_ready_away.new.table (lent_from c.args.self.now.here.space c.peer-peer.result c.args.self.now.messages.waiting.items) (lent_from c.args.self.now.here.space c.peer-peer.result c.args.self.now.messages.jobs.ready) c.throw_waiting_away.ensures.back c.throw_ready_away.ensures.back;
         loses = record {
           closed = λ rep. same_standing c.close_pins.ensures.table.items rep ∙ same_standing c.unlist_all.ensures.table.items rep ∙ c.close.ensures.closed rep;
           places = λ rep. (λ i. place_in (c.close_pins.ensures.table.items.surrogates i) rep) ∙ (λ i. place_in (c.unlist_all.ensures.table.items.surrogates i) rep) ∙ c.close.ensures.places rep;
