@@ -33,7 +33,7 @@ returns-clause-stands c limits D stands =
     let there = claim_found c.args.self.now.jobs_made (find (is_free_of c.args.self.now.messages.jobs.running) c.args.self.now.messages.jobs.ready) c.in_ok-job.job c.in_ok-job.ensures.answer in
     let is : job_of (c.args.self.now.jobs_made + 1) there.0.from there.0.item ≡ Ok (answers.Job c.in_ok-job.job) =
     claimed_is c.args.self.now.jobs_made there.0 c.in_ok-job.job (ap (claim_of c.args.self.now.jobs_made) (sym there.1) ∙ c.in_ok-job.ensures.answer) in
-    claim_done stands there.0 c.in_ok-job.job c.claim.new.self.ready c.claim.new.self.running (claim_is c.args.self.now.here.space c.args.self.now.here.n limits D c.in_ok-job.job (returns-clause-answer c limits D stands)) there.1 is
+    claim_done stands there.0 c.in_ok-job.job c.claim.new.self.jobs.ready c.claim.new.self.jobs.running (claim_is c.args.self.now.here.space c.args.self.now.here.n limits D c.in_ok-job.job (returns-clause-answer c limits D stands)) there.1 is
     (c.claim.ensures.ready ∙ (λ i. without_first (is_free_of (c.reserve_running.ensures.running i)) (c.reserve_running.ensures.ready i)))
     (c.claim.ensures.running there.0 ((λ i. find (is_free_of (c.reserve_running.ensures.running i)) (c.reserve_running.ensures.ready i)) ∙ there.1) ∙ ap (λ runs. record { job = c.in_ok-job.job.job; message = there.0 } ∷ runs) c.reserve_running.ensures.running)
 
