@@ -39,3 +39,6 @@ kept_twice first second third queue one two = record {
   queue_room = two.queue_room ∙ one.queue_room;
   room = two.room ∙ one.room;
 }
+
+pub kept_same : {T : Type 0} (lists : QueueLists T) (queue : ℕ) → KeepsBut lists lists queue
+kept_same lists queue = record { others = λ other differs. refl; queue_room = refl; room = refl }
