@@ -151,6 +151,10 @@ open_in test message = length (filter (is_due_where test) message.copies)
 abbrev pub changed : (ℕ → Entry → Entry) → List (ℕ × Entry) → List (ℕ × Entry)
 changed change rows = map (λ row. (row.0, change row.0 row.1)) rows
 
+-- an entry with so many to wait for
+abbrev pub with_waits : ℕ → Entry → Entry
+with_waits waits entry = record { message = entry.message; waits = waits }
+
 -- an entry with so many less to wait for
 abbrev pub lowered_entry : ℕ → Entry → Entry
 lowered_entry less entry = record { message = entry.message; waits = entry.waits - less }

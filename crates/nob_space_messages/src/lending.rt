@@ -6,7 +6,7 @@ ghost use Rattle.nob_slots.specs.Slots.{IsRising, is_number};
 ghost use Rattle.nob_space_messages.specs.Waiting as words;
 ghost use Rattle.nob_space_messages.specs.Lines.{AreMarked, IsLined, all_lent, is_standing, items_of, lent_where};
 
-use crate::entry::{Entry, WAITING};
+use crate::entry::{Entry, WAITING, write_waits};
 use crate::lines::Lines;
 use nob_ids::WireRep;
 use nob_model_types::message::RefCopy;
@@ -64,14 +64,13 @@ fn lend_at(queues: &mut Queues<Entry>, rep: &WireRep, stamp: u64) -> u64
     ensures marked { AreMarked (rows_at queues.new 0) (marked_at queues.new 0) }
     ensures kept { KeepsBut queues.old queues.new 0 }
 {
-    if queues.get(WAITING, stamp).is_none() {
+    let Some(entry) = queues.get(WAITING, stamp) else {
         return 0;
-    }
+    };
+    let waits = entry.waits;
     let entry = queues.get_mut(WAITING, stamp);
     let lent = lend_to(rep, &mut entry.message);
-    entry.waits = entry.waits.saturating_sub(lent);
-    let is_free = entry.waits == 0;
-    queues.mark(WAITING, stamp, is_free);
+    write_waits(queues, stamp, waits.saturating_sub(lent));
     lent
 }
 

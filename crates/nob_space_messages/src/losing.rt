@@ -10,7 +10,7 @@ ghost use Rattle.nob_queues.specs.Queues.{KeepsBut, marked_at, rows_at};
 ghost use Rattle.nob_slots.specs.Slots.{IsRising};
 ghost use Rattle.nob_space_messages.specs.Lines.{AreMarked, has_line, lines_of, lowered, once, times_in, times_of};
 
-use crate::entry::{Entry, WAITING};
+use crate::entry::{Entry, WAITING, write_waits};
 use crate::lines::Lines;
 use nob_ids::{SpaceId, WireRep};
 use nob_queues::Queues;
@@ -23,13 +23,11 @@ fn lower_at(queues: &mut Queues<Entry>, stamp: u64)
     ensures marked { AreMarked (rows_at queues.new 0) (marked_at queues.new 0) }
     ensures kept { KeepsBut queues.old queues.new 0 }
 {
-    if queues.get(WAITING, stamp).is_none() {
+    let Some(entry) = queues.get(WAITING, stamp) else {
         return;
-    }
-    let entry = queues.get_mut(WAITING, stamp);
-    entry.waits = entry.waits.saturating_sub(1);
-    let is_free = entry.waits == 0;
-    queues.mark(WAITING, stamp, is_free);
+    };
+    let waits = entry.waits.saturating_sub(1);
+    write_waits(queues, stamp, waits);
 }
 
 // The same of the stamp that stands at a place, if there is any.
