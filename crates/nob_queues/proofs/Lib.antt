@@ -1,4 +1,5 @@
 pub mod Found
 pub mod Keyed
 pub mod Kept
+pub mod Lent
 pub mod Writes
