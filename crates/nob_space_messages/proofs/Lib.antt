@@ -7,6 +7,7 @@ pub mod Found
 pub mod Granted
 pub mod Granting
 pub mod Heads
+pub mod Jobs
 pub mod Joined
 pub mod Kept
 pub mod Left
@@ -19,4 +20,5 @@ pub mod Rows
 pub mod Split
 pub mod Stamps
 pub mod Taken
+pub mod Unmoved
 pub mod Written

@@ -1,5 +1,5 @@
 -- What is said of one queue holds while that queue is as it was.
-use Rattle.std.proofs.Common.{◌≡◌, ℕ, ◌<◌, List, subst, sym, ap}
+use Rattle.std.proofs.Common.{◌≡◌, ℕ, ◌<◌, List, subst, sym, ap, arith}
 use Rattle.nob_queues.specs.Queues.{QueueLists, marked_at, queue_at, room_at, rows_at}
 use Rattle.nob_slots.specs.Numbers.{NumberLists}
 use Rattle.nob_slots.specs.Slots.{SlotList}
@@ -22,3 +22,21 @@ module _ (old new : QueueLists Entry) where
 
   pub counted_kept : (lanes : LaneList) → queue_at new 2 ≡ queue_at old 2 → AreCounted lanes (newest_first (rows_at old 2)) → AreCounted lanes (newest_first (rows_at new 2))
   counted_kept lanes same are = subst (λ (q : SlotList Entry). AreCounted lanes (newest_first q.rows)) (sym same) are
+
+-- with no room for more that wait
+pub roomless : {rows : List (ℕ × Entry)} {marked : List ℕ} {entries next room : ℕ} {froms : NumberLists} {lines : LineList} → AreWaiting rows marked entries froms lines next room → AreWaiting rows marked entries froms lines next 0
+roomless are = record {
+  rising = are.rising;
+  above = are.above;
+  marks = are.marks;
+  stamps = are.stamps;
+  waits = are.waits;
+  lined = are.lined;
+  awaited = are.awaited;
+  fresh = are.fresh;
+  few = are.few;
+  entry_room = λ some. absurd (omega (arith, some));
+  stamp_room = λ some. absurd (omega (arith, some));
+  line_room = omega arith;
+  small = (let small = are.small in omega (arith, small));
+}
