@@ -117,6 +117,19 @@ module _ {T : Type 0} (slots : List (Option T)) (queues : List (SlotList ℕ)) (
     pub all_there : AllThere slots old.rows
     all_there = all_found (λ n k. IsSome (item_of slots k)) old.rows rising_here (λ n k found. kept.there q n k (stands_here n k found))
 
+    -- what has a key has an item, and the other way round
+    pub some_here : (n : ℕ) → IsSome (item_at old.rows n) → IsSome (item_at (rows_of slots old.rows) n)
+    some_here n some =
+        let key = some_is (item_at old.rows n) some in
+        subst (λ (o : Option T). IsSome o) (sym (item_in slots old.rows n all_there ∙ ap (item_or slots) key.1)) (kept.there q n key.0 (stands_here n key.0 key.1))
+
+    pub some_key : (n : ℕ) → IsSome (item_at (rows_of slots old.rows) n) → IsSome (item_at old.rows n)
+    some_key n some =
+        elim (item_at old.rows n) as (λ (o : Option ℕ). item_at (rows_of slots old.rows) n ≡ item_or slots o → IsSome o) [
+          | None ↦ λ e. absurd (true≢false (sym (subst (λ (o : Option T). IsSome o) e some)))
+          | Some k ↦ λ e. refl
+        ] (item_in slots old.rows n all_there)
+
     -- ---- an item more, under a key that had none
     module _ (slots' : List (Option T)) (n key : ℕ) (x : T) (new : SlotList ℕ) (rows : new.rows ≡ old.rows ++ (n, key) ∷ []) (above : IsAbove old.rows n) (vacant : item_of slots key ≡ None) (changed : item_of slots' key ≡ Some x) (others : (k : ℕ) → (k ≡ key → ⊥) → item_of slots' k ≡ item_of slots k) where
       apart : (p m k : ℕ) → Stands queues p m k → k ≡ key → ⊥

@@ -195,7 +195,7 @@ impl<T> Queues<T> {
         let Some(key) = self.queues[queue].take(number) else {
             return None;
         };
-        self.items.try_remove(key)
+        Some(self.items.remove(key))
     }
 
     /// Takes the item of a number from a queue to another one, if it is there: it stands behind all
