@@ -17,7 +17,7 @@ use Rattle.nob_queues.proofs.Keyed.{AllThere, all_found, item_in, item_or, pushe
 -- ---- how many keys there are
 pub one_less : {X : Type 0} (n : ℕ) (rows : List (ℕ × X)) (x : X) → item_at rows n ≡ Some x → length (remove_entry (is_number n) rows) + 1 ≡ length rows
 one_less n [] x found = absurd (none-some x found)
-one_less {X} n (row ∷ rows) x found =
+one_less n (row ∷ rows) x found =
     elim (is_number n row.0) as (λ b. cond b (Some row.1) (item_at rows n) ≡ Some x → length (cond b rows (row ∷ remove_entry (is_number n) rows)) + 1 ≡ length (row ∷ rows)) [
       | true ↦ λ e. omega arith
       | false ↦ λ e. omega (arith, one_less n rows x e)
@@ -98,11 +98,11 @@ module _ {T : Type 0} (slots : List (Option T)) (queues : List (SlotList ℕ)) (
             | inl e ↦ ap (keys_at (set queues q new)) e ∙ at_here queues q old got new ∙ rows ∙ sym (was queues q old got) ∙ ap (keys_at queues) (sym e)
             | inr ne ↦ at_other queues q old got new p ne
           ] in
-      let stood : (p m k : ℕ) → Stands (set queues q new) p m k → Stands queues p m k = λ p m k stands. ap (λ (rs : List (ℕ × ℕ)). item_at rs m) (sym (same p)) ∙ stands in
+      let before : (p m k : ℕ) → Stands (set queues q new) p m k → Stands queues p m k = λ p m k stands. ap (λ (rs : List (ℕ × ℕ)). item_at rs m) (sym (same p)) ∙ stands in
       record {
         rising = λ p. subst (λ (rs : List (ℕ × ℕ)). IsRising rs) (sym (same p)) (kept.rising p);
-        there = λ p m k stands. kept.there p m k (stood p m k stands);
-        once = λ p m r s k first second. kept.once p m r s k (stood p m k first) (stood r s k second);
+        there = λ p m k stands. kept.there p m k (before p m k stands);
+        once = λ p m r s k first second. kept.once p m r s k (before p m k first) (before r s k second);
         all = omega (arith, kept.all, count_set queues q old new got, ap (λ (rs : List (ℕ × ℕ)). length rs) rows);
       }
 
@@ -203,21 +203,21 @@ module _ {T : Type 0} (slots : List (Option T)) (queues : List (SlotList ℕ)) (
         module _ (to under : ℕ) (there more : SlotList ℕ) (got_there : slice_get (set queues q new) to ≡ Some there) (rows_there : more.rows ≡ there.rows ++ (under, key) ∷ []) (above : IsAbove there.rows under) where
           pub kept_shifted : AreKept slots (set (set queues q new) to more)
           kept_shifted =
-              let stood = stood (set queues q new) to there got_there more under key rows_there above in
-              let left = left queues q old got new n rows rising_here in
+              let came = stood (set queues q new) to there got_there more under key rows_there above in
+              let stayed = left queues q old got new n rows rising_here in
               let some = kept.there q n key (stands_here n key found) in
               record {
                 rising = rising_more (set queues q new) to there got_there more under key rows_there above (rising_less queues q old got new n rows rising_here kept.rising);
-                there = λ p m k stands. elim (stood p m k stands) as (λ _. IsSome (item_of slots k)) [
-                  | inl before ↦ kept.there p m k (left p m k before).0
+                there = λ p m k stands. elim (came p m k stands) as (λ _. IsSome (item_of slots k)) [
+                  | inl before ↦ kept.there p m k (stayed p m k before).0
                   | inr now ↦ subst (λ (i : ℕ). IsSome (item_of slots i)) (sym now.2) some
                 ];
-                once = λ p m r s k first second. elim (stood p m k first) as (λ _. (p ≡ r) × (m ≡ s)) [
-                  | inl a ↦ elim (stood r s k second) as (λ _. (p ≡ r) × (m ≡ s)) [
-                    | inl b ↦ kept.once p m r s k (left p m k a).0 (left r s k b).0
+                once = λ p m r s k first second. elim (came p m k first) as (λ _. (p ≡ r) × (m ≡ s)) [
+                  | inl a ↦ elim (came r s k second) as (λ _. (p ≡ r) × (m ≡ s)) [
+                    | inl b ↦ kept.once p m r s k (stayed p m k a).0 (stayed r s k b).0
                     | inr b ↦ absurd (gone p m k a b.2)
                   ]
-                  | inr a ↦ elim (stood r s k second) as (λ _. (p ≡ r) × (m ≡ s)) [
+                  | inr a ↦ elim (came r s k second) as (λ _. (p ≡ r) × (m ≡ s)) [
                     | inl b ↦ absurd (gone r s k b a.2)
                     | inr b ↦ (a.0 ∙ sym b.0, a.1 ∙ sym b.1)
                   ]

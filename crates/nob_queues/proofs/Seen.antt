@@ -1,8 +1,10 @@
 -- What a contract sees of a queue, before and after another is put in its place.
-use Rattle.std.proofs.Common.{◌≡◌, ℕ, ◌<◌, ◌==◌, Bool, true, false, List, [], ◌++◌, length, map, get_or, Option, Some, None, IsSome, IfSome, slice_get, refl, sym, ap, subst, ◌∙◌, arith, if◌then◌else◌}
+use Rattle.std.proofs.Common.{◌≡◌, ℕ, ◌<◌, ◌==◌, Bool, true, false, List, [], ◌∷◌, length, map, get_or, Option, Some, None, IsSome, slice_get, refl, sym, ap, subst, ◌∙◌, arith, if◌then◌else◌}
+use Prim.Native.Nat.{suc}
 use lib.ListN.{set}
 use Rattle.std.proofs.lemmas.Bool.{eqb-false}
 use Rattle.std.proofs.lemmas.Option.{slice_get_read}
+use Rattle.std.specs.Prelude.{IfSome}
 use Rattle.std.specs.Map.{remove_entry}
 use Rattle.nob_slots.specs.Slots.{SlotList, item_at, is_marked, is_number, IsAbove, IsRising, PutsMark}
 use Rattle.nob_slots.proofs.Flat.{get_set_other, get_set_same}
@@ -94,3 +96,8 @@ module _ {T : Type 0} where
 
       pub removed_seen : (n : ℕ) → rows_of slots (remove_entry (is_number n) old.rows) ≡ remove_entry (is_number n) (seen_at slots queues q).rows
       removed_seen n = removed_in slots n old.rows (all_there slots queues kept q old got) ∙ ap (λ (rs : List (ℕ × T)). remove_entry (is_number n) rs) (sym rows_seen)
+
+  -- as many queues as there are
+  pub length_seen_all : (slots : List (Option T)) (queues : List (SlotList ℕ)) → length (map (queue_of slots) queues) ≡ length queues
+  length_seen_all slots [] = refl
+  length_seen_all slots (keys ∷ queues) = ap (λ (n : ℕ). suc n) (length_seen_all slots queues)

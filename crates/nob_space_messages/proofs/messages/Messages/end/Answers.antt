@@ -22,8 +22,8 @@ one c = alone c.args.job (rows_at c.self.inside.queues 2) c.len-count.ensures.ri
 
 pub end-requires-clause-runs : goal.end-requires-clause-runs
 end-requires-clause-runs c =
-    let alone = alone c.args.job (rows_at c.self.inside.queues 2) c.len-count.ensures.rising ∙ ap (λ o. option_to_list (option_map (as_run c.args.job) o)) (sym c.take.ensures.item ∙ c.in-Some.is) in
-    let some = runs_some (is_run c.args.job) (newest_first (rows_at c.self.inside.queues 2)) (as_run c.args.job c.in-Some.entry) alone in
+    let one = alone c.args.job (rows_at c.self.inside.queues 2) c.len-count.ensures.rising ∙ ap (λ o. option_to_list (option_map (as_run c.args.job) o)) (sym c.take.ensures.item ∙ c.in-Some.is) in
+    let some = runs_some (is_run c.args.job) (newest_first (rows_at c.self.inside.queues 2)) (as_run c.args.job c.in-Some.entry) one in
     rw (c.target_of.ensures, c.self.invariant.5 (target_of c.in-Some.entry.message.item)) some
 
 pub returns-clause-running : goal.returns-clause-running
