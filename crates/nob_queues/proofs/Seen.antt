@@ -1,5 +1,5 @@
 -- What a contract sees of a queue, before and after another is put in its place.
-use Rattle.std.proofs.Common.{◌≡◌, ℕ, ◌<◌, ◌==◌, Bool, true, false, List, [], ◌∷◌, length, map, get_or, Option, Some, None, IsSome, slice_get, refl, sym, ap, subst, ◌∙◌, arith, if◌then◌else◌}
+use Rattle.std.proofs.Common.{◌≡◌, ℕ, ◌<◌, ◌==◌, Bool, true, false, List, [], ◌∷◌, length, map, get_or, Option, Some, None, IsSome, slice_get, refl, sym, ap, subst, ◌∙◌, arith, if◌then◌else◌, true≢false}
 use Prim.Native.Nat.{suc}
 use lib.ListN.{set}
 use Rattle.std.proofs.lemmas.Bool.{eqb-false}
@@ -9,8 +9,8 @@ use Rattle.std.specs.Map.{remove_entry}
 use Rattle.nob_slots.specs.Slots.{SlotList, item_at, is_marked, is_number, IsAbove, IsRising, PutsMark}
 use Rattle.nob_slots.proofs.Flat.{get_set_other, get_set_same}
 use Rattle.nob_queues.specs.Queues.{KeepsBut, QueueLists, queue_or_none}
-use Rattle.nob_queues.specs.Keys.{AreKept, item_of, keys_at, queue_of, rows_of}
-use Rattle.nob_queues.proofs.Keyed.{all_out, item_in, item_or, length_in, queue_is, removed_in, rising_in}
+use Rattle.nob_queues.specs.Keys.{AreKept, Stands, item_of, keys_at, queue_of, rows_of}
+use Rattle.nob_queues.proofs.Keyed.{all_found, all_out, item_in, item_or, length_in, queue_is, removed_in, rising_in}
 use Rattle.nob_queues.proofs.Kept.{all_there, rising_here, some_here, some_key}
 
 -- the queue at a place
@@ -101,3 +101,14 @@ module _ {T : Type 0} where
   pub length_seen_all : (slots : List (Option T)) (queues : List (SlotList ℕ)) → length (map (queue_of slots) queues) ≡ length queues
   length_seen_all slots [] = refl
   length_seen_all slots (keys ∷ queues) = ap (λ (n : ℕ). suc n) (length_seen_all slots queues)
+
+  -- what a contract sees under a number has a key
+  pub stands_unseen : (slots : List (Option T)) (queues : List (SlotList ℕ)) (kept : AreKept slots queues) (q n : ℕ) → IsSome (item_at (seen_at slots queues q).rows n) → (key : ℕ) × Stands queues q n key
+  stands_unseen slots queues kept q n some =
+      let there = all_found (λ m k. IsSome (item_of slots k)) (keys_at queues q) (kept.rising q) (kept.there q) in
+      let same : item_at (seen_at slots queues q).rows n ≡ item_or slots (item_at (keys_at queues q) n) =
+          ap (λ (s : SlotList T). item_at s.rows n) (queue_is slots queues q) ∙ item_in slots (keys_at queues q) n there in
+      elim (item_at (keys_at queues q) n) as (λ (o : Option ℕ). item_at (seen_at slots queues q).rows n ≡ item_or slots o → (key : ℕ) × (o ≡ Some key)) [
+        | None ↦ λ e. absurd (true≢false (sym (subst (λ (o : Option T). IsSome o) e some)))
+        | Some k ↦ λ e. (k, refl)
+      ] same

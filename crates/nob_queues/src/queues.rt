@@ -51,7 +51,8 @@ impl<T> Model for Queues<T> {
 fn key_of(queues: &[Slots<usize>; QUEUES], queue: usize, number: u64) -> usize
     requires queue { queue < 3 }
     requires there { (key : ℕ) × Stands queues.now queue number key }
-    ensures { Stands queues.now queue number result }
+    ensures key { Stands queues.now queue number result }
+    ensures count { length queues.now ≡ 3 }
 {
     let Some(key) = queues[queue].get(number) else {
         unreachable!();

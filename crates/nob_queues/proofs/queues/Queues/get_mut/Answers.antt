@@ -1,33 +1,27 @@
-use Rattle.std.proofs.Common.{rules, ◌≡◌, ◌<◌, ℕ, Option, Some, length, sym, ap, refl, arith, ◌∙◌}
+use Rattle.std.proofs.Common.{◌≡◌, ◌<◌, ℕ, Option, Some, length, sym, ap, refl, arith, ◌∙◌}
 use lib.ListN.{set}
 use Rattle.slab.proofs.SlabLemmas.{Updates-with_value}
 use Rattle.nob_slots.specs.Slots.{SlotList, item_at}
 use Rattle.nob_queues.specs.Queues.{queue_or_none}
 use Rattle.nob_queues.proofs.Lent.{lent_is}
-use Rattle.nob_queues.proofs.Keyed.{item_or, some_is}
-use Rattle.nob_queues.proofs.Kept.{stands_here}
-use Rattle.nob_queues.proofs.Seen.{item_seen, length_seen_all, some_unseen}
+use Rattle.nob_queues.proofs.Keyed.{item_or}
+use Rattle.nob_queues.proofs.Seen.{item_seen, length_seen_all, stands_unseen}
 use Rattle.nob_queues.proofs.Writes.{in_range}
 use Rattle.nob_queues.proofs.queues.Queues.get_mut.Goals as goal
 
 pub key_of-key-requires-clause-there : goal.key_of-key-requires-clause-there
 key_of-key-requires-clause-there g c =
-    let queues = c.self.inside.queues in
-    let slots = c.self.inside.items.slots in
-    let three : length queues ≡ 3 = search rules in
-    let old = in_range queues c.args.queue (omega (arith, three, c.requires.queue)) in
-    let key = some_is _ (some_unseen slots queues c.args.queue old.0 old.1 c.self.invariant.0 c.args.number (rw (← c.self.view_is) at c.requires.there)) in
-    (key.0, stands_here slots queues c.self.invariant.0 c.args.queue old.0 old.1 c.args.number key.0 key.1)
+    stands_unseen c.self.inside.items.slots c.self.inside.queues c.self.invariant.0 c.args.queue c.args.number (rw (← c.self.view_is) at c.requires.there)
 
 pub returns : goal.returns
 returns g c =
     let queues = c.self.inside.queues in
     let slots = c.self.inside.items.slots in
     let kept = c.self.invariant.0 in
-    let three : length queues ≡ 3 = search rules in
+    let three = c.key_of-key.ensures.count in
     let old = in_range queues c.args.queue (omega (arith, three, c.requires.queue)) in
-    let found : item_at old.0.rows c.args.number ≡ Some c.key_of-key.result = ap (λ (o : Option (SlotList ℕ)). item_at (queue_or_none o).rows c.args.number) (sym old.1) ∙ c.key_of-key.ensures in
-    let there = kept.there c.args.queue c.args.number c.key_of-key.result c.key_of-key.ensures in
+    let found : item_at old.0.rows c.args.number ≡ Some c.key_of-key.result = ap (λ (o : Option (SlotList ℕ)). item_at (queue_or_none o).rows c.args.number) (sym old.1) ∙ c.key_of-key.ensures.key in
+    let there = kept.there c.args.queue c.args.number c.key_of-key.result c.key_of-key.ensures.key in
     (
       (refl, λ w.
       let writes = Updates-with_value c.self.inside.items c.key_of-key.result w there in

@@ -22,7 +22,7 @@ invariant_of-self g c =
     let room = c.self.invariant.1 in
     let insert = c.insert_reserved-key.ensures in
     (
-      kept_pushed slots queues c.self.invariant.0 c.args.queue _ got c.insert_reserved-key.new.self.slots c.args.number c.insert_reserved-key.result c.args.item _ c.push.ensures.rows above insert.was_vacant insert.updates.changed insert.updates.others insert.len,
+      kept_pushed slots queues c.self.invariant.0 c.args.queue _ got c.insert_reserved-key.new.self.slots c.args.number c.insert_reserved-key.result c.args.item c.push.new.self c.push.ensures.rows above insert.was_vacant insert.updates.changed insert.updates.others insert.len,
       omega (arith, some, room, insert.len, insert.capacity),
     )
 
@@ -36,7 +36,7 @@ returns-clause-rows g c =
     let insert = c.insert_reserved-key.ensures in
     rw (← c.self.view_is) (
     rows_put slots queues c.args.queue _ got c.insert_reserved-key.new.self.slots _
-    ∙ pushed_rows slots queues c.self.invariant.0 c.args.queue _ got c.insert_reserved-key.new.self.slots c.args.number c.insert_reserved-key.result c.args.item _ c.push.ensures.rows above insert.was_vacant insert.updates.changed insert.updates.others
+    ∙ pushed_rows slots queues c.self.invariant.0 c.args.queue _ got c.insert_reserved-key.new.self.slots c.args.number c.insert_reserved-key.result c.args.item c.push.new.self c.push.ensures.rows above insert.was_vacant insert.updates.changed insert.updates.others
     ∙ ap (λ (rs : List (ℕ × g.row.T.Denot)). rs ++ (c.args.number, c.args.item) ∷ []) (sym (rows_seen slots queues c.args.queue _ got)))
 
 pub returns-clause-others : goal.returns-clause-others
@@ -48,4 +48,4 @@ returns-clause-others g c =
     let above = above_unseen slots queues c.args.queue _ got c.self.invariant.0 c.args.number (rw (← c.self.view_is) at c.requires.above) in
     let insert = c.insert_reserved-key.ensures in
     rw (← c.self.view_is) (λ other differs. other_put slots queues c.args.queue _ got c.insert_reserved-key.new.self.slots _ other (eqb-false other c.args.queue differs)
-    (pushed_apart slots queues c.self.invariant.0 c.args.queue _ got c.insert_reserved-key.new.self.slots c.args.number c.insert_reserved-key.result c.args.item _ c.push.ensures.rows above insert.was_vacant insert.updates.changed insert.updates.others other))
+    (pushed_apart slots queues c.self.invariant.0 c.args.queue _ got c.insert_reserved-key.new.self.slots c.args.number c.insert_reserved-key.result c.args.item c.push.new.self c.push.ensures.rows above insert.was_vacant insert.updates.changed insert.updates.others other))

@@ -60,7 +60,7 @@ invariant_of-self-2 g c =
     let room = c.self.invariant.1 in
     let removed = c.remove.ensures in
     (
-      kept_taken c.self.inside.items.slots queues c.self.invariant.0 c.args.queue _ got c.args.number c.in-Some.key (sym c.take.ensures.item ∙ c.in-Some.is) _ c.take.ensures.rows c.remove.new.self.slots removed.updates.others removed.len,
+      kept_taken c.self.inside.items.slots queues c.self.invariant.0 c.args.queue _ got c.args.number c.in-Some.key (sym c.take.ensures.item ∙ c.in-Some.is) c.take.new.self c.take.ensures.rows c.remove.new.self.slots removed.updates.others removed.len,
       omega (arith, room, removed.len, removed.capacity),
     )
 
@@ -79,7 +79,7 @@ returns-clause-rows g c =
     let got = at_queue queues c.args.queue c.index-self-queue.result three c.requires c.index-self-queue.is in
     rw (← c.self.view_is) (
     rows_put slots queues c.args.queue _ got c.remove.new.self.slots _
-    ∙ taken_rows slots queues c.self.invariant.0 c.args.queue _ got c.args.number c.in-Some.key (sym c.take.ensures.item ∙ c.in-Some.is) _ c.take.ensures.rows c.remove.new.self.slots c.remove.ensures.updates.others
+    ∙ taken_rows slots queues c.self.invariant.0 c.args.queue _ got c.args.number c.in-Some.key (sym c.take.ensures.item ∙ c.in-Some.is) c.take.new.self c.take.ensures.rows c.remove.new.self.slots c.remove.ensures.updates.others
     ∙ ap (λ (rs : List (ℕ × g.row.T.Denot)). remove_entry (is_number c.args.number) rs) (sym (rows_seen slots queues c.args.queue _ got)))
 
 pub returns-clause-marked : goal.returns-clause-marked
@@ -96,4 +96,4 @@ returns-clause-kept g c =
     let three : length queues ≡ 3 = search rules in
     let got = at_queue queues c.args.queue c.index-self-queue.result three c.requires c.index-self-queue.is in
     rw (← c.self.view_is) (keeps_but slots queues c.args.queue _ got c.remove.new.self.slots _ c.self.inside.room
-    (λ p ne. taken_apart slots queues c.self.invariant.0 c.args.queue _ got c.args.number c.in-Some.key (sym c.take.ensures.item ∙ c.in-Some.is) _ c.take.ensures.rows c.remove.new.self.slots c.remove.ensures.updates.others p ne) c.take.ensures.room)
+    (λ p ne. taken_apart slots queues c.self.invariant.0 c.args.queue _ got c.args.number c.in-Some.key (sym c.take.ensures.item ∙ c.in-Some.is) c.take.new.self c.take.ensures.rows c.remove.new.self.slots c.remove.ensures.updates.others p ne) c.take.ensures.room)
