@@ -46,7 +46,7 @@ module _ (queues : List (SlotList ℕ)) (q : ℕ) (old : SlotList ℕ) (got : sl
       stood p m k stands = elim (cases_eq p q) as (λ _. Stands queues p m k ⊎ ((p ≡ q) × (m ≡ n) × (k ≡ key))) [
         | inl e ↦
             let at : item_at (old.rows ++ (n, key) ∷ []) m ≡ Some k =
-                ap (λ (rs : List (ℕ × ℕ)). item_at rs m) (sym rows ∙ sym at_here ∙ ap (keys_at (set queues q new)) (sym e)) ∙ stands in
+            ap (λ (rs : List (ℕ × ℕ)). item_at rs m) (sym rows ∙ sym at_here ∙ ap (keys_at (set queues q new)) (sym e)) ∙ stands in
             elim (n == m) as (λ b. (n == m) ≡ b → (if b then Some key else item_at old.rows m) ≡ Some k → Stands queues p m k ⊎ ((p ≡ q) × (m ≡ n) × (k ≡ key))) [
               | true ↦ λ t w. inr (e, sym (eqb-true n m t), sym (same_Some key k w))
               | false ↦ λ u w. inl (ap (λ (rs : List (ℕ × ℕ)). item_at rs m) (ap (keys_at queues) e ∙ was) ∙ w)
@@ -69,7 +69,7 @@ module _ (queues : List (SlotList ℕ)) (q : ℕ) (old : SlotList ℕ) (got : sl
       left p m k stands = elim (cases_eq p q) as (λ _. Stands queues p m k × ((p ≡ q) → (m ≡ n) → ⊥)) [
         | inl e ↦
             let at : item_at (remove_entry (is_number n) old.rows) m ≡ Some k =
-                ap (λ (rs : List (ℕ × ℕ)). item_at rs m) (sym rows ∙ sym at_here ∙ ap (keys_at (set queues q new)) (sym e)) ∙ stands in
+            ap (λ (rs : List (ℕ × ℕ)). item_at rs m) (sym rows ∙ sym at_here ∙ ap (keys_at (set queues q new)) (sym e)) ∙ stands in
             elim (n == m) as (λ b. (n == m) ≡ b → (if b then None else item_at old.rows m) ≡ Some k → Stands queues p m k × ((p ≡ q) → (m ≡ n) → ⊥)) [
               | true ↦ λ t w. absurd (none-some k w)
               | false ↦ λ u w. (
@@ -95,9 +95,9 @@ module _ {T : Type 0} (slots : List (Option T)) (queues : List (SlotList ℕ)) (
   pub kept_same : (q : ℕ) (old new : SlotList ℕ) → slice_get queues q ≡ Some old → new.rows ≡ old.rows → AreKept slots (set queues q new)
   kept_same q old new got rows =
       let same : (p : ℕ) → keys_at (set queues q new) p ≡ keys_at queues p = λ p. elim (cases_eq p q) as (λ _. keys_at (set queues q new) p ≡ keys_at queues p) [
-            | inl e ↦ ap (keys_at (set queues q new)) e ∙ at_here queues q old got new ∙ rows ∙ sym (was queues q old got) ∙ ap (keys_at queues) (sym e)
-            | inr ne ↦ at_other queues q old got new p ne
-          ] in
+        | inl e ↦ ap (keys_at (set queues q new)) e ∙ at_here queues q old got new ∙ rows ∙ sym (was queues q old got) ∙ ap (keys_at queues) (sym e)
+        | inr ne ↦ at_other queues q old got new p ne
+      ] in
       let before : (p m k : ℕ) → Stands (set queues q new) p m k → Stands queues p m k = λ p m k stands. ap (λ (rs : List (ℕ × ℕ)). item_at rs m) (sym (same p)) ∙ stands in
       record {
         rising = λ p. subst (λ (rs : List (ℕ × ℕ)). IsRising rs) (sym (same p)) (kept.rising p);

@@ -107,7 +107,7 @@ module _ {T : Type 0} where
   stands_unseen slots queues kept q n some =
       let there = all_found (λ m k. IsSome (item_of slots k)) (keys_at queues q) (kept.rising q) (kept.there q) in
       let same : item_at (seen_at slots queues q).rows n ≡ item_or slots (item_at (keys_at queues q) n) =
-          ap (λ (s : SlotList T). item_at s.rows n) (queue_is slots queues q) ∙ item_in slots (keys_at queues q) n there in
+      ap (λ (s : SlotList T). item_at s.rows n) (queue_is slots queues q) ∙ item_in slots (keys_at queues q) n there in
       elim (item_at (keys_at queues q) n) as (λ (o : Option ℕ). item_at (seen_at slots queues q).rows n ≡ item_or slots o → (key : ℕ) × (o ≡ Some key)) [
         | None ↦ λ e. absurd (true≢false (sym (subst (λ (o : Option T). IsSome o) e some)))
         | Some k ↦ λ e. (k, refl)

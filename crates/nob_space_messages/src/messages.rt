@@ -406,7 +406,12 @@ impl Messages {
         ensures room { self.new.waiting.room ≡ self.old.waiting.room }
         ensures jobs { self.new.jobs ≡ self.old.jobs }
     {
-        drop_all(&mut self.queues, &mut self.waits.copies, &self.waits.froms, peer);
+        drop_all(
+            &mut self.queues,
+            &mut self.waits.copies,
+            &self.waits.froms,
+            peer,
+        );
         self.waits.froms.clear(peer);
     }
 
@@ -420,7 +425,12 @@ impl Messages {
         ensures settled_room { self.new.jobs.settled_room ≡ self.old.jobs.settled_room }
         ensures running_room { self.new.jobs.running_room ≡ self.old.jobs.running_room }
     {
-        drop_jobs(&mut self.queues, &mut self.ready.lines, &self.ready.froms, peer);
+        drop_jobs(
+            &mut self.queues,
+            &mut self.ready.lines,
+            &self.ready.froms,
+            peer,
+        );
         self.ready.froms.clear(peer);
     }
 

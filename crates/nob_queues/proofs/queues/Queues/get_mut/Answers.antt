@@ -21,11 +21,13 @@ returns g c =
     let three = c.key_of-key.ensures.count in
     let old = in_range queues c.args.queue (omega (arith, three, c.requires.queue)) in
     let found : item_at old.0.rows c.args.number ≡ Some c.key_of-key.result = ap (λ (o : Option (SlotList ℕ)). item_at (queue_or_none o).rows c.args.number) (sym old.1) ∙ c.key_of-key.ensures.key in
-    let there = kept.there c.args.queue c.args.number c.key_of-key.result c.key_of-key.ensures.key in
-    (
-      (refl, λ w.
-      let writes = Updates-with_value c.self.inside.items c.key_of-key.result w there in
-      rw (← c.self.view_is) (lent_is slots (set slots c.key_of-key.result (Some w)) queues kept c.self.inside.room c.args.queue old.0 old.1 c.args.number c.key_of-key.result found w writes.changed writes.others)),
+    let there = kept.there c.args.queue c.args.number c.key_of-key.result c.key_of-key.ensures.key in (
+      (
+        refl,
+        λ w.
+            let writes = Updates-with_value c.self.inside.items c.key_of-key.result w there in
+            rw (← c.self.view_is) (lent_is slots (set slots c.key_of-key.result (Some w)) queues kept c.self.inside.room c.args.queue old.0 old.1 c.args.number c.key_of-key.result found w writes.changed writes.others),
+      ),
       record {
         writes_back = tt;
         value = rw (← c.self.view_is) (item_seen slots queues c.args.queue old.0 old.1 kept c.args.number ∙ ap (item_or slots) found ∙ c.index_mut.ensures.value);

@@ -20,8 +20,7 @@ invariant_of-self g c =
     let above = above_unseen slots queues c.args.queue _ got c.self.invariant.0 c.args.number (rw (← c.self.view_is) at c.requires.above) in
     let some : 0 < c.self.inside.room = rw (← c.self.view_is) at c.requires.room in
     let room = c.self.invariant.1 in
-    let insert = c.insert_reserved-key.ensures in
-    (
+    let insert = c.insert_reserved-key.ensures in (
       kept_pushed slots queues c.self.invariant.0 c.args.queue _ got c.insert_reserved-key.new.self.slots c.args.number c.insert_reserved-key.result c.args.item c.push.new.self c.push.ensures.rows above insert.was_vacant insert.updates.changed insert.updates.others insert.len,
       omega (arith, some, room, insert.len, insert.capacity),
     )

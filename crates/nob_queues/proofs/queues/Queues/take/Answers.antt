@@ -58,8 +58,7 @@ invariant_of-self-2 g c =
     let three : length queues ≡ 3 = search rules in
     let got = at_queue queues c.args.queue c.index-self-queue.result three c.requires c.index-self-queue.is in
     let room = c.self.invariant.1 in
-    let removed = c.remove.ensures in
-    (
+    let removed = c.remove.ensures in (
       kept_taken c.self.inside.items.slots queues c.self.invariant.0 c.args.queue _ got c.args.number c.in-Some.key (sym c.take.ensures.item ∙ c.in-Some.is) c.take.new.self c.take.ensures.rows c.remove.new.self.slots removed.updates.others removed.len,
       omega (arith, room, removed.len, removed.capacity),
     )

@@ -22,8 +22,7 @@ invariant_of-self c =
     let queues = c.self.inside.queues in
     let new = c.shift.new.self in
     let entry = c.in-Some-get.entry.now in
-    let found : item_at (rows_at queues 1) c.in-Some.stamp ≡ Some entry = sym c.get.ensures ∙ ap option_copied c.in-Some-get.is in
-    (
+    let found : item_at (rows_at queues 1) c.in-Some.stamp ≡ Some entry = sym c.get.ensures ∙ ap option_copied c.in-Some-get.is in (
       waiting_kept queues new c.self.inside.waits.froms c.self.inside.waits.lines c.self.inside.waits.next c.self.inside.waits.room (c.shift.ensures.others 0 refl refl) c.self.invariant.0,
       carried_kept queues new c.self.inside.waits.copies (c.shift.ensures.others 0 refl refl) c.self.invariant.1,
       c.self.invariant.2,

@@ -26,10 +26,10 @@ invariant_of-self c =
           c.drop_all.ensures.kept.queue_room c.clear.ensures.room,
       c.drop_all.ensures.carried,
       kept_few c.self.inside.waits.copies c.drop_all.new.counts keeps (items_of rows) (items_of (rows_at c.drop_all.new.queues 0)) c.self.inside.waits.next c.self.invariant.1 c.drop_all.ensures.carried (ap items_of (rows_kept c) ∙ kept_items keeps rows) c.self.invariant.2,
-  λ some. let had = c.self.invariant.3 some in omega (arith, had, c.drop_all.ensures.kept.room),
-  ready_kept c.self.inside.queues c.drop_all.new.queues c.self.inside.ready.lines.links c.self.inside.ready.lines.lanes c.self.inside.ready.froms c.self.inside.ready.next c.self.inside.ready.room (c.drop_all.ensures.kept.others 1 refl) c.self.invariant.4,
-  counted_kept c.self.inside.queues c.drop_all.new.queues c.self.inside.ready.lines.lanes (c.drop_all.ensures.kept.others 2 refl) c.self.invariant.5,
-)
+      λ some. let had = c.self.invariant.3 some in omega (arith, had, c.drop_all.ensures.kept.room),
+      ready_kept c.self.inside.queues c.drop_all.new.queues c.self.inside.ready.lines.links c.self.inside.ready.lines.lanes c.self.inside.ready.froms c.self.inside.ready.next c.self.inside.ready.room (c.drop_all.ensures.kept.others 1 refl) c.self.invariant.4,
+      counted_kept c.self.inside.queues c.drop_all.new.queues c.self.inside.ready.lines.lanes (c.drop_all.ensures.kept.others 2 refl) c.self.invariant.5,
+    )
 
 pub returns-clause-items : goal.returns-clause-items
 returns-clause-items c = rw (← c.self.view_is) (ap items_of (rows_kept c) ∙ kept_items (is_not_from c.args.peer) (rows_at c.self.inside.queues 0))

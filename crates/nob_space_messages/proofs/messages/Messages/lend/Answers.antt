@@ -20,10 +20,10 @@ invariant_of-self c =
           (lent_open c.self.invariant.0 c.args.rep.now lined) (λ s e r off. due_other c.args.rep.now r e.message off) (λ s e. refl),
       granted_carried c.self.inside.waits.copies c.args.rep.now (items_of (rows_at c.self.inside.queues 0)) (items_of (rows_at c.lend_line-lent.new.queues 0)) c.self.invariant.1 (ap items_of c.lend_line-lent.ensures.rows ∙ lent_items c.args.rep.now (rows_at c.self.inside.queues 0)),
       c.self.invariant.2,
-  λ some. let had = c.self.invariant.3 some in omega (arith, had, c.lend_line-lent.ensures.kept.room),
-  ready_kept c.self.inside.queues c.lend_line-lent.new.queues c.self.inside.ready.lines.links c.self.inside.ready.lines.lanes c.self.inside.ready.froms c.self.inside.ready.next c.self.inside.ready.room (c.lend_line-lent.ensures.kept.others 1 refl) c.self.invariant.4,
-  counted_kept c.self.inside.queues c.lend_line-lent.new.queues c.self.inside.ready.lines.lanes (c.lend_line-lent.ensures.kept.others 2 refl) c.self.invariant.5,
-)
+      λ some. let had = c.self.invariant.3 some in omega (arith, had, c.lend_line-lent.ensures.kept.room),
+      ready_kept c.self.inside.queues c.lend_line-lent.new.queues c.self.inside.ready.lines.links c.self.inside.ready.lines.lanes c.self.inside.ready.froms c.self.inside.ready.next c.self.inside.ready.room (c.lend_line-lent.ensures.kept.others 1 refl) c.self.invariant.4,
+      counted_kept c.self.inside.queues c.lend_line-lent.new.queues c.self.inside.ready.lines.lanes (c.lend_line-lent.ensures.kept.others 2 refl) c.self.invariant.5,
+    )
 
 pub returns-clause-items : goal.returns-clause-items
 returns-clause-items c = rw (← c.self.view_is) (ap items_of c.lend_line-lent.ensures.rows ∙ lent_items c.args.rep.now (rows_at c.self.inside.queues 0))

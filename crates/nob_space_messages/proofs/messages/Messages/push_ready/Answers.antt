@@ -19,8 +19,7 @@ invariant_of-self c =
     let queues = c.self.inside.queues in
     let new = c.push-3.new.self in
     let room : 0 < min c.self.inside.ready.room queues.room = rw (← c.self.view_is) at c.requires in
-    let some : 0 < c.self.inside.ready.room = omega (arith, room) in
-    (
+    let some : 0 < c.self.inside.ready.room = omega (arith, room) in (
       roomless (waiting_kept queues new c.self.inside.waits.froms c.self.inside.waits.lines c.self.inside.waits.next c.self.inside.waits.room (c.push-3.ensures.others 0 refl) c.self.invariant.0),
       carried_kept queues new c.self.inside.waits.copies (c.push-3.ensures.others 0 refl) c.self.invariant.1,
       c.self.invariant.2,

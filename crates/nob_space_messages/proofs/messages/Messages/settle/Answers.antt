@@ -33,8 +33,7 @@ invariant_of-self-3 c =
     let entry = c.in-Some-get.entry.now in
     let found : item_at rows n ≡ Some entry = sym c.get.ensures ∙ ap option_copied c.in-Some-get.is in
     let room : 0 < c.self.inside.ready.room = rw (← c.self.view_is) at c.requires in
-    let are = c.self.invariant.0 in
-    (
+    let are = c.self.invariant.0 in (
       fewer are (rows_at new 0) (marked_at new 0) (room_at new 0) c.take.new.self
           (subst IsRising (sym c.shift.ensures.from) (removed_rising n rows are.rising))
           (subst (λ rs. IsAbove rs c.self.inside.waits.next) (sym c.shift.ensures.from) (removed_below n c.self.inside.waits.next rows are.above))

@@ -28,10 +28,10 @@ invariant_of-self-2 c =
           c.take.ensures.kept.queue_room c.take-2.ensures.room,
       removed_carried c.self.inside.waits.copies c.as_slice.result.now rows n c.in_ok-message.field-0 c.self.invariant.1 found c.as_slice.ensures c.uncount_all.new.counts (rows_at c.take.new.self 0) c.uncount_all.ensures c.take.ensures.rows,
       fewer_few c.self.inside.waits.copies c.uncount_all.new.counts c.as_slice.result.now c.self.inside.waits.next c.self.invariant.2 c.uncount_all.ensures,
-  λ some. let had = c.self.invariant.3 some in omega (arith, had, c.take.ensures.kept.room),
-  ready_kept c.self.inside.queues c.take.new.self c.self.inside.ready.lines.links c.self.inside.ready.lines.lanes c.self.inside.ready.froms c.self.inside.ready.next c.self.inside.ready.room (c.take.ensures.kept.others 1 refl) c.self.invariant.4,
-  counted_kept c.self.inside.queues c.take.new.self c.self.inside.ready.lines.lanes (c.take.ensures.kept.others 2 refl) c.self.invariant.5,
-)
+      λ some. let had = c.self.invariant.3 some in omega (arith, had, c.take.ensures.kept.room),
+      ready_kept c.self.inside.queues c.take.new.self c.self.inside.ready.lines.links c.self.inside.ready.lines.lanes c.self.inside.ready.froms c.self.inside.ready.next c.self.inside.ready.room (c.take.ensures.kept.others 1 refl) c.self.invariant.4,
+      counted_kept c.self.inside.queues c.take.new.self c.self.inside.ready.lines.lanes (c.take.ensures.kept.others 2 refl) c.self.invariant.5,
+    )
 
 pub uncount_all-requires : goal.uncount_all-requires
 uncount_all-requires c = record {
