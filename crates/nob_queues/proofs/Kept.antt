@@ -1,5 +1,5 @@
 -- Queues of keys after a change: each key still has an item, none stands twice, and no item stands nowhere.
-use Rattle.std.proofs.Common.{◌≡◌, ◌⊎◌, ℕ, ◌+◌, ◌==◌, true, false, cond, List, [], ◌∷◌, ◌++◌, length, map, count_by, Option, Some, None, IsSome, is_some, slice_get, inl, inr, refl, sym, ap, subst, ◌∙◌, arith, if◌then◌else◌, eqb-true, true≢false}
+use Rattle.std.proofs.Common.{◌≡◌, ◌⊎◌, ℕ, ◌+◌, ◌==◌, true, false, cond, List, [], ◌∷◌, ◌++◌, length, count_by, Option, Some, None, IsSome, is_some, slice_get, inl, inr, refl, sym, ap, subst, ◌∙◌, arith, if◌then◌else◌, eqb-true, true≢false}
 use Prim.Native.Nat.{zero, suc}
 use lib.ListN.{set}
 use Rattle.std.proofs.lemmas.Bool.{cases_eq}
@@ -10,8 +10,8 @@ use Rattle.nob_slots.specs.Slots.{SlotList, item_at, is_number, IsAbove, IsRisin
 use Rattle.nob_slots.proofs.Flat.{get_set_other, get_set_same, length_push}
 use Rattle.nob_slots.proofs.Rising.{rising_push}
 use Rattle.nob_queues.specs.Queues.{queue_or_none, row_if}
-use Rattle.nob_queues.specs.Keys.{AreKept, Stands, item_of, key_count, keys_at, queue_of, rows_of}
-use Rattle.nob_queues.proofs.Found.{pushed_at, removed_at, removed_absent, removed_rising}
+use Rattle.nob_queues.specs.Keys.{AreKept, Stands, item_of, key_count, keys_at, rows_of}
+use Rattle.nob_queues.proofs.Found.{pushed_at, removed_at, removed_rising}
 use Rattle.nob_queues.proofs.Keyed.{AllThere, all_found, item_in, item_or, pushed_in, removed_in, rows_same, some_is, written_in}
 
 -- ---- how many keys there are

@@ -1,12 +1,11 @@
 -- Items of keys: what a queue of keys stands for, after a change of the keys or of what the slab has.
-use Rattle.std.proofs.Common.{◌≡◌, ℕ, ◌<◌, ◌==◌, true, false, cond, List, [], ◌∷◌, ◌++◌, length, map, Option, Some, None, IsSome, is_some, slice_get, refl, sym, ap, subst, ◌∙◌, arith, eqb-true, true≢false}
+use Rattle.std.proofs.Common.{◌≡◌, ℕ, ◌<◌, true, false, cond, List, [], ◌∷◌, ◌++◌, length, map, Option, Some, None, IsSome, slice_get, refl, sym, ap, subst, ◌∙◌, arith, eqb-true, true≢false}
 use Prim.Native.Nat.{zero, suc}
 use Rattle.std.proofs.lemmas.Cmp.{nat_eq_equiv}
-use Rattle.std.proofs.lemmas.Bool.{ne_eqb}
 use Rattle.std.proofs.lemmas.Option.{same_Some}
 use Rattle.std.specs.List.{AllByRecursion}
 use Rattle.std.specs.Map.{remove_entry, set_value}
-use Rattle.nob_slots.specs.Slots.{SlotList, item_at, is_number, IsAbove, IsRising}
+use Rattle.nob_slots.specs.Slots.{SlotList, item_at, is_number, IsRising}
 use Rattle.nob_queues.specs.Queues.{queue_or_none, row_if}
 use Rattle.nob_queues.specs.Keys.{item_of, queue_of, rows_of, with_row}
 use Rattle.nob_queues.proofs.Found.{found_above, found_behind}

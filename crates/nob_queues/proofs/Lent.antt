@@ -1,12 +1,12 @@
 -- What the queues are once an item is written in the slab.
-use Rattle.std.proofs.Common.{◌≡◌, ℕ, true, false, cond, List, [], ◌∷◌, map, count_by, get_or, Option, Some, None, IsSome, is_some, slice_get, refl, sym, ap, ◌∙◌, arith, true≢false}
+use Rattle.std.proofs.Common.{◌≡◌, ℕ, cond, List, [], ◌∷◌, map, count_by, get_or, Option, Some, None, IsSome, is_some, slice_get, refl, sym, ap, ◌∙◌, arith, true≢false}
 use Prim.Native.Nat.{zero, suc}
 use lib.ListN.{set}
 use Rattle.std.proofs.lemmas.List.Sums.{sum_by-cons}
 use Rattle.std.proofs.lemmas.Option.{none-some, same_Some}
 use Rattle.nob_slots.specs.Slots.{SlotList, item_at}
-use Rattle.nob_queues.specs.Queues.{QueueLists, queue_at, queue_or_none, with_item, writes_item}
-use Rattle.nob_queues.specs.Keys.{AreKept, item_of, keys_at, queue_of, rows_of}
+use Rattle.nob_queues.specs.Queues.{QueueLists, queue_or_none, with_item, writes_item}
+use Rattle.nob_queues.specs.Keys.{AreKept, item_of, queue_of, rows_of}
 use Rattle.nob_queues.proofs.Keyed.{queue_is}
 use Rattle.nob_queues.proofs.Kept.{written_apart, written_rows}
 

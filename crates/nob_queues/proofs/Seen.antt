@@ -1,5 +1,5 @@
 -- What a contract sees of a queue, before and after another is put in its place.
-use Rattle.std.proofs.Common.{◌≡◌, ℕ, ◌<◌, ◌==◌, Bool, true, false, List, [], ◌∷◌, length, map, get_or, Option, Some, None, IsSome, slice_get, refl, sym, ap, subst, ◌∙◌, arith, if◌then◌else◌, true≢false}
+use Rattle.std.proofs.Common.{◌≡◌, ℕ, ◌<◌, Bool, true, List, [], ◌∷◌, length, map, get_or, Option, Some, None, IsSome, slice_get, refl, sym, ap, subst, ◌∙◌, arith, if◌then◌else◌, true≢false}
 use Prim.Native.Nat.{suc}
 use lib.ListN.{set}
 use Rattle.std.proofs.lemmas.Bool.{eqb-false}
@@ -8,7 +8,7 @@ use Rattle.std.specs.Prelude.{IfSome}
 use Rattle.std.specs.Map.{remove_entry}
 use Rattle.nob_slots.specs.Slots.{SlotList, item_at, is_marked, is_number, IsAbove, IsRising, PutsMark}
 use Rattle.nob_slots.proofs.Flat.{get_set_other, get_set_same}
-use Rattle.nob_queues.specs.Queues.{KeepsBut, QueueLists, queue_or_none}
+use Rattle.nob_queues.specs.Queues.{KeepsBut, queue_or_none}
 use Rattle.nob_queues.specs.Keys.{AreKept, Stands, item_of, keys_at, queue_of, rows_of}
 use Rattle.nob_queues.proofs.Keyed.{all_found, all_out, item_in, item_or, length_in, queue_is, removed_in, rising_in}
 use Rattle.nob_queues.proofs.Kept.{all_there, rising_here, some_here, some_key}

@@ -1,11 +1,11 @@
 -- What the writing of an item makes of the queues, for callers.
-use Rattle.std.proofs.Common.{◌≡◌, ℕ, ◌<◌, ◌==◌, false, List, [], ◌∷◌, length, Option, Some, slice_get, refl, ap, ◌∙◌, arith}
+use Rattle.std.proofs.Common.{◌≡◌, ℕ, ◌<◌, List, [], ◌∷◌, length, Option, Some, slice_get, refl, ap, ◌∙◌, arith}
 use Prim.Native.Nat.{zero, suc}
 use Rattle.std.proofs.lemmas.Bool.{eqb-false}
 use Rattle.std.specs.Map.{set_value}
 use Rattle.nob_slots.specs.Slots.{SlotList, is_number}
 use Rattle.nob_slots.proofs.Flat.{get_set_other, get_set_same}
-use Rattle.nob_queues.specs.Queues.{QueueLists, KeepsBut, marked_at, queue_at, queue_or_none, room_at, rows_at, with_item, writes_item}
+use Rattle.nob_queues.specs.Queues.{QueueLists, KeepsBut, marked_at, queue_at, queue_or_none, rows_at, with_item, writes_item}
 
 -- what stands at a place below the length
 pub in_range : {X : Type 0} (xs : List X) (i : ℕ) → i < length xs → (x : X) × (slice_get xs i ≡ Some x)

@@ -1,4 +1,4 @@
-use Rattle.std.proofs.Common.{◌≡◌, ◌<◌, ℕ, Option, Some, length, sym, ap, refl, arith, ◌∙◌}
+use Rattle.std.proofs.Common.{◌≡◌, ℕ, Option, Some, sym, ap, refl, arith, ◌∙◌}
 use lib.ListN.{set}
 use Rattle.slab.proofs.SlabLemmas.{Updates-with_value}
 use Rattle.nob_slots.specs.Slots.{SlotList, item_at}

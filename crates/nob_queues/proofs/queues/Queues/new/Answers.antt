@@ -1,4 +1,4 @@
-use Rattle.std.proofs.Common.{◌≡◌, ◌+◌, ◌≤◌, List, Option, count_by, is_some, ap, arith}
+use Rattle.std.proofs.Common.{List, Option, count_by, is_some, ap, arith}
 use Rattle.nob_queues.proofs.Fresh.{none_kept}
 use Rattle.nob_queues.proofs.queues.Queues.new.Goals as goal
 

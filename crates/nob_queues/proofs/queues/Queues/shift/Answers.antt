@@ -1,17 +1,15 @@
-use Rattle.std.proofs.Common.{rules, ◌≡◌, ◌++◌, Some, None, List, ℕ, length, slice_get, sym, ap, refl, arith, ◌∙◌}
+use Rattle.std.proofs.Common.{rules, ◌≡◌, ◌++◌, length, sym, ap, refl, ◌∙◌}
 use Rattle.std.proofs.Math.ListN.{length-set}
-use lib.ListN.{set}
 use Rattle.std.proofs.lemmas.Bool.{eqb-false}
-use Rattle.std.specs.Map.{remove_entry}
 use Rattle.std.proofs.lemmas.List.{append-nil}
-use Rattle.nob_slots.specs.Slots.{SlotList, is_marked, is_number, item_at}
+use Rattle.nob_slots.specs.Slots.{SlotList, is_marked}
 use Rattle.nob_slots.proofs.Flat.{get_set_other}
 use Rattle.nob_queues.specs.Keys.{rows_of}
 use Rattle.nob_queues.specs.Queues.{row_if}
 use Rattle.nob_queues.proofs.Found.{removed_absent}
 use Rattle.nob_queues.proofs.Keyed.{item_or, pushed_in}
 use Rattle.nob_queues.proofs.Kept.{kept_same, kept_shifted}
-use Rattle.nob_queues.proofs.Seen.{above_unseen, at_queue, item_seen, marked_put, marked_seen, other_put, puts_seen, removed_seen, room_put, room_seen, rows_put, rows_seen, seen_at}
+use Rattle.nob_queues.proofs.Seen.{above_unseen, at_queue, item_seen, other_put, puts_seen, removed_seen, room_put, room_seen, rows_put, rows_seen, seen_at}
 use Rattle.nob_queues.proofs.queues.Queues.shift.Goals as goal
 
 pub invariant_of-self : goal.invariant_of-self
