@@ -217,7 +217,9 @@ impl<T> Queues<T> {
         ensures others { (other : ℕ) → (other == queue) ≡ false → (other == to) ≡ false
             → queue_at self.new other ≡ queue_at self.old other }
         ensures queue_room { room_at self.new queue ≡ room_at self.old queue }
-        ensures room_to { room_at self.old to ≤ room_at self.new to + 1 }
+        ensures room_to { room_at self.new to
+            + length (row_if under (item_at (rows_at self.old queue) number))
+            ≡ room_at self.old to }
         ensures room { self.new.room ≡ self.old.room }
     {
         let Some(key) = self.queues[queue].take(number) else {

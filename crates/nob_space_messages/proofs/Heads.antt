@@ -59,7 +59,7 @@ not_not : (b : Bool) → not (not b) ≡ b
 not_not true = refl
 not_not false = refl
 
-module _ (rows : List (ℕ × Entry)) (rising : IsRising rows) (links : List (ℕ × Link)) {lanes : LaneList} {marked : List ℕ} (are : AreLinked links lanes.rows marked) (same : SameTargets links rows) (running : List Run) (counted : AreCounted lanes running) where
+module _ (rows : List (ℕ × Entry)) (rising : IsRising rows) (links : List (ℕ × Link)) (lanes : LaneList) {marked : List ℕ} (are : AreLinked links lanes.rows marked) (same : SameTargets links rows) (running : List Run) (counted : AreCounted lanes running) where
   -- a job is free where none of its target runs
   free_idle : (m : Message) → is_free_of running m ≡ (runs_in (lane_at lanes.rows (target_of m.item)) == 0)
   free_idle m =

@@ -1,7 +1,8 @@
 -- What holds of the ready jobs and of those that run after a change.
-use Rattle.std.proofs.Common.{◌≡◌, ℕ, ◌+◌, ◌<◌, ◌≤◌, ◌==◌, ◌^◌, not, List, [], ◌∷◌, ◌++◌, length, filter, Option, Some, None, refl, sym, ap, subst, ◌∙◌, arith, if◌then◌else◌}
+use Rattle.std.proofs.Common.{◌≡◌, ℕ, ◌+◌, ◌-◌, ◌<◌, ◌≤◌, ◌==◌, ◌^◌, not, List, [], ◌∷◌, ◌++◌, length, filter, Option, Some, None, refl, sym, ap, subst, ◌∙◌, arith, if◌then◌else◌}
 use Rattle.std.specs.Map.{remove_entry}
 use Rattle.nob_model_acting.specs.Candidates.{target_of}
+use Rattle.nob_model_types.specs.declared.message.Message.{Message}
 use Rattle.nob_model_types.specs.Messages.{is_not_from}
 use Rattle.nob_model_work.specs.declared.work.Run.{Run}
 use Rattle.nob_model_work.specs.Work.{is_run}
@@ -13,7 +14,7 @@ use Rattle.nob_space_messages.specs.declared.entry.Entry.{Entry}
 use Rattle.nob_space_messages.specs.declared.links.Link.{Link}
 use Rattle.nob_space_messages.specs.InLine.{AreLinked, target_at, with_at}
 use Rattle.nob_space_messages.specs.Lanes.{LaneList, is_target, lane_at, runs_in}
-use Rattle.nob_space_messages.specs.Lines.{stamps_from}
+use Rattle.nob_space_messages.specs.Lines.{items_of, stamps_from}
 use Rattle.nob_space_messages.specs.Rows.{AreCounted, AreReady, message_target, newest_first, run_of, runs_with}
 use Rattle.nob_space_messages.proofs.Beside.{pushed_targets, taken_targets}
 use Rattle.nob_space_messages.proofs.Counted.{counted_less, runs_parted}
@@ -84,6 +85,26 @@ module _ {rows : List (ℕ × Entry)} {rows_room : ℕ} {links : SlotList Link} 
         froms_room = omega (arith, same_spaces, are.froms_room);
         small = are.small;
       }
+
+  -- a job that runs no more
+  pub ready_ended : (links' : SlotList Link) (lanes' : LaneList) → links'.rows ≡ links.rows → AreLinked links'.rows lanes'.rows links'.marked → links'.room ≡ links.room → lanes.room ≤ lanes'.room → AreReady rows rows_room links' lanes' spaces next room
+  ready_ended links' lanes' same lines same_links more_lanes = record {
+    rising = are.rising;
+    below = are.below;
+    lines = lines;
+    targets = λ k. ap (λ (ls : List (ℕ × Link)). target_at ls k) same ∙ are.targets k;
+    froms = are.froms;
+    messages_room = are.messages_room;
+    links_room = omega (arith, same_links, are.links_room);
+    lanes_room = omega (arith, more_lanes, are.lanes_room);
+    froms_room = are.froms_room;
+    small = are.small;
+  }
+
+-- ---- one message more
+pub items_more : (n : ℕ) (e : Entry) (rows : List (ℕ × Entry)) → items_of (rows ++ (n, e) ∷ []) ≡ items_of rows ++ e.message ∷ []
+items_more n e [] = refl
+items_more n e (row ∷ rows) = ap (λ (ms : List Message). row.1.message ∷ ms) (items_more n e rows)
 
 -- ---- how many run
 module _ (lanes lanes' : LaneList) (rows : List (ℕ × Entry)) (counted : AreCounted lanes (newest_first rows)) where

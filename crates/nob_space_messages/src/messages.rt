@@ -12,10 +12,12 @@ ghost use Rattle.nob_space_messages.specs.Jobs.{is_free_of, IsAbove};
 ghost use Rattle.nob_space_messages.specs.Messages.{if_any};
 ghost use Rattle.nob_space_messages.specs.Waiting.{carries_any_of, due_to_all, granted_message, is_awaited, is_due_in, is_settleable_in, IsNew};
 
-use crate::copies::{count_all, has_copies, uncount_all};
+use crate::copies::{count_all, has_copies, no_copies, uncount_all};
 use crate::entry::{Entry, READY, RUNNING, WAITING};
 use crate::from::From;
+use crate::in_line::InLine;
 use crate::lending::lend_line;
+use crate::lines::Lines;
 use crate::losing::{lower_all, lower_line};
 use crate::ready::{self, Ready};
 use crate::taking::drop_jobs;
@@ -24,6 +26,7 @@ use nob_ids::{JobNo, SpaceId, WireRep};
 use nob_model_acting::candidates::target_of;
 use nob_model_types::Message;
 use nob_queues::Queues;
+use nob_slots::Numbers;
 use std::alloc::{AllocError, Global};
 use std::marker::Model;
 
@@ -102,8 +105,19 @@ impl Messages {
     {
         Messages {
             queues: Queues::new(alloc),
-            waits: Waits::new(alloc),
-            ready: Ready::new(alloc),
+            waits: Waits {
+                froms: Numbers::new(alloc),
+                lines: Lines::new(alloc),
+                copies: no_copies(),
+                next: 0,
+                room: 0,
+            },
+            ready: Ready {
+                lines: InLine::new(alloc),
+                froms: Numbers::new(alloc),
+                next: 0,
+                room: 0,
+            },
         }
     }
 
@@ -201,8 +215,8 @@ impl Messages {
         ensures ok { OnOk result (additional ≤ self.new.jobs.ready_room) }
         ensures succeeds { additional ≤ self.old.jobs.ready_room → IsOk result }
     {
-        self.queues.reserve(additional)?;
-        self.reserve_settled(additional)
+        self.reserve_settled(additional)?;
+        self.queues.reserve(additional)
     }
 
     /// Makes room for so many more ready jobs that wait now. It is as `reserve_ready`, but that it

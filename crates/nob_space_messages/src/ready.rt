@@ -2,7 +2,6 @@
 
 use crate::in_line::InLine;
 use nob_slots::Numbers;
-use std::alloc::Global;
 
 /// The most stamps that there can be.
 pub const MOST: u64 = 1 << 60;
@@ -33,17 +32,5 @@ impl Drop for Ready {
             next: _,
             room: _,
         } = self;
-    }
-}
-
-impl Ready {
-    /// Beside no jobs. It takes no memory before the first.
-    pub fn new(alloc: Global) -> Ready {
-        Ready {
-            lines: InLine::new(alloc),
-            froms: Numbers::new(alloc),
-            next: 0,
-            room: 0,
-        }
     }
 }

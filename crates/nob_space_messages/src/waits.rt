@@ -12,7 +12,7 @@ ghost use Rattle.nob_space_messages.specs.Copies.{AreCarried};
 ghost use Rattle.nob_space_messages.specs.Lines.{AreAwaited, AreMarked, items_of, places_for, times_in, without};
 ghost use Rattle.nob_space_messages.specs.Waiting.{is_due, waits_for};
 
-use crate::copies::{no_copies, uncount_all};
+use crate::copies::uncount_all;
 use crate::entry::{Entry, WAITING};
 use crate::lending::is_due;
 use crate::lines::Lines;
@@ -21,7 +21,6 @@ use nob_ids::SpaceId;
 use nob_model_types::message::RefCopy;
 use nob_queues::Queues;
 use nob_slots::Numbers;
-use std::alloc::Global;
 
 /// What stands beside the messages that wait.
 ///
@@ -52,19 +51,6 @@ impl Drop for Waits {
             next: _,
             room: _,
         } = self;
-    }
-}
-
-impl Waits {
-    /// Beside no messages. It takes no memory before the first.
-    pub fn new(alloc: Global) -> Waits {
-        Waits {
-            froms: Numbers::new(alloc),
-            lines: Lines::new(alloc),
-            copies: no_copies(),
-            next: 0,
-            room: 0,
-        }
     }
 }
 

@@ -1,7 +1,7 @@
 use Rattle.std.proofs.Common.{◌≡◌, ◌<◌, ◌==◌, ℕ, List, Some, length, ap, sym, subst, refl, arith, ◌∙◌}
 use Rattle.std.proofs.lemmas.Option.{same_Some}
 use Rattle.std.specs.Map.{set_value}
-use Rattle.nob_queues.specs.Queues.{QueueLists, rows_at, writes_item}
+use Rattle.nob_queues.specs.Queues.{marked_at, rows_at}
 use Rattle.nob_queues.proofs.Writes.{kept_twice, written_kept, written_marked, written_rows}
 use Rattle.nob_slots.specs.Slots.{is_number, item_at, PutsMark}
 use Rattle.nob_space_messages.specs.declared.entry.Entry.{Entry}
@@ -24,7 +24,7 @@ returns-clause-rows c entry found =
 pub returns-clause-marked : goal.returns-clause-marked
 returns-clause-marked c =
     let within : 0 < length c.args.queues.now.queues = omega (arith, c.get_mut-entry.ensures.count) in
-    subst (λ (ms : List ℕ). PutsMark ms _ c.args.stamp (c.args.waits == 0)) (written_marked c.args.queues.now 0 c.args.stamp _ within) c.mark.ensures.marked
+    subst (λ (ms : List ℕ). PutsMark ms (marked_at c.mark.new.self 0) c.args.stamp (c.args.waits == 0)) (written_marked c.args.queues.now 0 c.args.stamp _ within) c.mark.ensures.marked
 
 pub returns-clause-kept : goal.returns-clause-kept
 returns-clause-kept c =

@@ -1,4 +1,4 @@
-use Rattle.std.proofs.Common.{rules, ◌≡◌, ◌++◌, length, sym, ap, refl, ◌∙◌}
+use Rattle.std.proofs.Common.{rules, ◌≡◌, ◌++◌, ◌+◌, Option, length, sym, ap, refl, arith, ◌∙◌}
 use Rattle.std.proofs.Math.ListN.{length-set}
 use Rattle.std.proofs.lemmas.Bool.{eqb-false}
 use Rattle.std.proofs.lemmas.List.{append-nil}
@@ -7,8 +7,8 @@ use Rattle.nob_slots.proofs.Flat.{get_set_other}
 use Rattle.nob_queues.specs.Keys.{rows_of}
 use Rattle.nob_queues.specs.Queues.{row_if}
 use Rattle.nob_queues.proofs.Found.{removed_absent}
-use Rattle.nob_queues.proofs.Keyed.{item_or, pushed_in}
-use Rattle.nob_queues.proofs.Kept.{kept_same, kept_shifted}
+use Rattle.nob_queues.proofs.Keyed.{item_or, pushed_in, some_is}
+use Rattle.nob_queues.proofs.Kept.{kept_same, kept_shifted, stands_here}
 use Rattle.nob_queues.proofs.Seen.{above_unseen, at_queue, item_seen, other_put, puts_seen, removed_seen, room_put, room_seen, rows_put, rows_seen, seen_at}
 use Rattle.nob_queues.proofs.queues.Queues.shift.Goals as goal
 
@@ -118,3 +118,31 @@ returns-clause-queue_room g c =
     let there = at_queue _ c.args.to c.index-self-to.result (length-set queues c.args.queue _ ∙ three) c.requires.to c.index-self-to.is in
     let ne = eqb-false c.args.to c.args.queue c.requires.apart in
     rw (← c.self.view_is) (ap (λ (s : SlotList g.row.T.Denot). s.room) (other_put slots _ c.args.to _ there slots _ c.args.queue (λ e. ne (sym e)) refl) ∙ room_put slots queues c.args.queue _ got slots _ ∙ c.take.ensures.room ∙ sym (room_seen slots queues c.args.queue _ got))
+
+pub returns-in_default-clause-room_to : goal.returns-in_default-clause-room_to
+returns-in_default-clause-room_to g c =
+    let queues = c.self.inside.queues in
+    let slots = c.self.inside.items.slots in
+    let three : length queues ≡ 3 = search rules in
+    let got = at_queue queues c.args.queue c.index-self-queue.result three c.requires.queue c.index-self-queue.is in
+    let none = item_seen slots queues c.args.queue _ got c.self.invariant.0 c.args.number ∙ ap (item_or slots) (sym c.take.ensures.item ∙ c.in_default.is) in
+    let empty = ap (λ (o : Option g.row.T.Denot). length (row_if c.args.under o)) none in
+    let same = ap (λ (s : SlotList g.row.T.Denot). s.room) (other_put slots queues c.args.queue _ got slots _ c.args.to (eqb-false c.args.to c.args.queue c.requires.apart) refl) in
+    rw (← c.self.view_is) (omega (arith, empty, same))
+
+pub returns-clause-room_to : goal.returns-clause-room_to
+returns-clause-room_to g c =
+    let queues = c.self.inside.queues in
+    let slots = c.self.inside.items.slots in
+    let kept = c.self.invariant.0 in
+    let three : length queues ≡ 3 = search rules in
+    let got = at_queue queues c.args.queue c.index-self-queue.result three c.requires.queue c.index-self-queue.is in
+    let there = at_queue _ c.args.to c.index-self-to.result (length-set queues c.args.queue _ ∙ three) c.requires.to c.index-self-to.is in
+    let was = sym (get_set_other queues c.args.queue c.args.to _ (eqb-false c.args.to c.args.queue c.requires.apart)) ∙ there in
+    let found = sym c.take.ensures.item ∙ c.in-Some.is in
+    let some = some_is _ (kept.there c.args.queue c.args.number c.in-Some.key (stands_here slots queues kept c.args.queue _ got c.args.number c.in-Some.key found)) in
+    let one = ap (λ (o : Option g.row.T.Denot). length (row_if c.args.under o)) (item_seen slots queues c.args.queue _ got kept c.args.number ∙ ap (item_or slots) found ∙ some.1) in
+    let put = room_put slots _ c.args.to _ there slots _ in
+    let had = room_seen slots queues c.args.to _ was in
+    let used = c.push.ensures.room in
+    rw (← c.self.view_is) (omega (arith, one, put, had, used))

@@ -17,6 +17,9 @@ invariant_of-self c =
           (owner_open c.self.invariant.0 c.args.owner reps c.lower_all.ensures.once c.lower_all.ensures.reps) (λ s e r off. refl) (λ s e. refl),
       same_carried c.self.inside.waits.copies (items_of (rows_at c.self.inside.queues 0)) (items_of (rows_at c.lower_all.new.queues 0)) c.self.invariant.1 (ap items_of c.lower_all.ensures.rows ∙ changed_items (λ s e. lowered_entry (times_of c.self.inside.waits.lines reps s) e) (rows_at c.self.inside.queues 0) (λ s e. refl)),
       c.self.invariant.2,
+      (λ some. let had = c.self.invariant.3 some in omega (arith, had, c.lower_all.ensures.kept.room)),
+      ready_kept c.self.inside.queues c.lower_all.new.queues c.self.inside.ready.lines.links c.self.inside.ready.lines.lanes c.self.inside.ready.froms c.self.inside.ready.next c.self.inside.ready.room (c.lower_all.ensures.kept.others 1 refl) c.self.invariant.4,
+      counted_kept c.self.inside.queues c.lower_all.new.queues c.self.inside.ready.lines.lanes (c.lower_all.ensures.kept.others 2 refl) c.self.invariant.5,
     )
 
 pub returns-clause-items : goal.returns-clause-items

@@ -1,4 +1,4 @@
-use Rattle.std.proofs.Common.{◌==◌, ◌+◌, ◌<◌, length, filter, ap, sym, subst, ◌∙◌, IsSome, if◌then◌else◌}
+use Rattle.std.proofs.Common.{refl, arith, ◌==◌, ◌+◌, ◌<◌, length, filter, ap, sym, subst, ◌∙◌, IsSome, if◌then◌else◌}
 use Rattle.nob_slots.specs.Numbers.{IsAboveAll}
 use Rattle.nob_slots.specs.Slots.{item_at, PutsMark}
 use Rattle.nob_space_messages.specs.Waiting.{is_due, waits_for}
@@ -14,8 +14,8 @@ pub push-requires-clause-above : goal.push-requires-clause-above
 push-requires-clause-above c =
     subst (λ ss. IsAboveAll ss c.self.inside.waits.next) (sym (c.self.invariant.0.stamps c.args.message.from)) (stamps_below c.args.message.from c.self.inside.waits.next (rows_at c.self.inside.queues 0) c.self.invariant.0.above)
 
-pub mark-requires : goal.mark-requires
-mark-requires c = subst (λ rs. IsSome (item_at rs c.self.inside.waits.next)) (sym c.push-2.ensures.rows) (push_there c.self.inside.waits.next _ (rows_at c.self.inside.queues 0) c.self.invariant.0.above)
+pub mark-requires-clause-there : goal.mark-requires-clause-there
+mark-requires-clause-there c = subst (λ rs. IsSome (item_at rs c.self.inside.waits.next)) (sym c.push-2.ensures.rows) (push_there c.self.inside.waits.next _ (rows_at c.self.inside.queues 0) c.self.invariant.0.above)
 
 pub invariant_of-self : goal.invariant_of-self
 invariant_of-self c =
@@ -33,6 +33,9 @@ invariant_of-self c =
           room,
       pushed_carried c.self.inside.waits.copies c.count_all.new.counts c.as_slice-copies.result.now (rows_at c.self.inside.queues 0) (rows_at c.mark.new.self 0) c.self.inside.waits.next (record { message = c.args.message; waits = c.line_up-waits.result }) c.self.invariant.1 c.count_all.ensures c.as_slice-copies.ensures (c.mark.ensures.rows ∙ c.push-2.ensures.rows),
       pushed_few c.self.inside.waits.copies c.count_all.new.counts c.as_slice-copies.result.now c.self.inside.waits.next c.self.invariant.2 c.count_all.ensures,
+      (λ none. absurd (omega (arith, none))),
+      ready_kept c.self.inside.queues c.mark.new.self c.self.inside.ready.lines.links c.self.inside.ready.lines.lanes c.self.inside.ready.froms c.self.inside.ready.next c.self.inside.ready.room (c.mark.ensures.kept.others 1 refl ∙ c.push-2.ensures.others 1 refl) c.self.invariant.4,
+      counted_kept c.self.inside.queues c.mark.new.self c.self.inside.ready.lines.lanes (c.mark.ensures.kept.others 2 refl ∙ c.push-2.ensures.others 2 refl) c.self.invariant.5,
     )
 
 pub count_all-requires : goal.count_all-requires

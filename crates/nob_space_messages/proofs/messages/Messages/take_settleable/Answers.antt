@@ -1,4 +1,4 @@
-use Rattle.std.proofs.Common.{ap, sym, subst, ◌∙◌}
+use Rattle.std.proofs.Common.{refl, arith, ap, sym, subst, ◌∙◌}
 use Rattle.nob_slots.specs.Slots.{item_at, IsAbove, IsRising}
 use Rattle.nob_space_messages.specs.Lines.{items_of, stamps_from, AreMarked}
 use Rattle.nob_space_messages.proofs.Carried.{fewer_few, removed_carried, some}
