@@ -14,6 +14,7 @@ pub mod Left
 pub mod Lent
 pub mod LinePushed
 pub mod Newest
+pub mod None
 pub mod Numbered
 pub mod Pushed
 pub mod Rows

@@ -48,14 +48,14 @@ returns-clause-rows c =
     let written = written_rows queues 0 c.args.stamp lent within in
     let some : IsSome (item_at rows c.args.stamp) = rw found refl in
     let at : item_at (rows_at (writes_item queues 0 c.args.stamp lent) 0) c.args.stamp ≡ Some lent =
-        ap (λ (rs : List (ℕ × Entry)). item_at rs c.args.stamp) written ∙ at_set c.args.stamp rows lent c.args.stamp some ∙ rw (nat_eq_equiv.refl c.args.stamp) refl in
+    ap (λ (rs : List (ℕ × Entry)). item_at rs c.args.stamp) written ∙ at_set c.args.stamp rows lent c.args.stamp some ∙ rw (nat_eq_equiv.refl c.args.stamp) refl in
     let left : c.saturating_sub.result ≡ (lent_entry c.args.rep.now entry).waits =
-        c.saturating_sub.ensures ∙ ap (λ (n : ℕ). entry.waits - n) (c.lend_to-lent.ensures.count ∙ ap (λ (x : Entry). due_to c.args.rep.now x.message) same) in
+    c.saturating_sub.ensures ∙ ap (λ (n : ℕ). entry.waits - n) (c.lend_to-lent.ensures.count ∙ ap (λ (x : Entry). due_to c.args.rep.now x.message) same) in
     let message = c.lend_to-lent.ensures.message ∙ ap (λ (x : Entry). granted_message c.args.rep.now x.message) same in
     let made : with_waits c.saturating_sub.result lent ≡ lent_entry c.args.rep.now entry = λ i. record { message = message i; waits = left i } in
     let back : rows_at c.write_waits.new.queues 0 ≡ set_value (is_number c.args.stamp) rows (lent_entry c.args.rep.now entry) =
-        c.write_waits.ensures.rows lent at ∙ ap (λ (rs : List (ℕ × Entry)). set_value (is_number c.args.stamp) rs (with_waits c.saturating_sub.result lent)) written
-        ∙ set_twice c.args.stamp rows lent (with_waits c.saturating_sub.result lent) ∙ ap (set_value (is_number c.args.stamp) rows) made in
+    c.write_waits.ensures.rows lent at ∙ ap (λ (rs : List (ℕ × Entry)). set_value (is_number c.args.stamp) rs (with_waits c.saturating_sub.result lent)) written
+    ∙ set_twice c.args.stamp rows lent (with_waits c.saturating_sub.result lent) ∙ ap (set_value (is_number c.args.stamp) rows) made in
     back ∙ set_changed c.args.stamp (lent_entry c.args.rep.now) rows entry c.requires.rising found
 
 pub returns-clause-count : goal.returns-clause-count
@@ -70,14 +70,14 @@ returns-clause-count c =
     let written = written_rows queues 0 c.args.stamp lent within in
     let some : IsSome (item_at rows c.args.stamp) = rw found refl in
     let at : item_at (rows_at (writes_item queues 0 c.args.stamp lent) 0) c.args.stamp ≡ Some lent =
-        ap (λ (rs : List (ℕ × Entry)). item_at rs c.args.stamp) written ∙ at_set c.args.stamp rows lent c.args.stamp some ∙ rw (nat_eq_equiv.refl c.args.stamp) refl in
+    ap (λ (rs : List (ℕ × Entry)). item_at rs c.args.stamp) written ∙ at_set c.args.stamp rows lent c.args.stamp some ∙ rw (nat_eq_equiv.refl c.args.stamp) refl in
     let left : c.saturating_sub.result ≡ (lent_entry c.args.rep.now entry).waits =
-        c.saturating_sub.ensures ∙ ap (λ (n : ℕ). entry.waits - n) (c.lend_to-lent.ensures.count ∙ ap (λ (x : Entry). due_to c.args.rep.now x.message) same) in
+    c.saturating_sub.ensures ∙ ap (λ (n : ℕ). entry.waits - n) (c.lend_to-lent.ensures.count ∙ ap (λ (x : Entry). due_to c.args.rep.now x.message) same) in
     let message = c.lend_to-lent.ensures.message ∙ ap (λ (x : Entry). granted_message c.args.rep.now x.message) same in
     let made : with_waits c.saturating_sub.result lent ≡ lent_entry c.args.rep.now entry = λ i. record { message = message i; waits = left i } in
     let back : rows_at c.write_waits.new.queues 0 ≡ set_value (is_number c.args.stamp) rows (lent_entry c.args.rep.now entry) =
-        c.write_waits.ensures.rows lent at ∙ ap (λ (rs : List (ℕ × Entry)). set_value (is_number c.args.stamp) rs (with_waits c.saturating_sub.result lent)) written
-        ∙ set_twice c.args.stamp rows lent (with_waits c.saturating_sub.result lent) ∙ ap (set_value (is_number c.args.stamp) rows) made in
+    c.write_waits.ensures.rows lent at ∙ ap (λ (rs : List (ℕ × Entry)). set_value (is_number c.args.stamp) rs (with_waits c.saturating_sub.result lent)) written
+    ∙ set_twice c.args.stamp rows lent (with_waits c.saturating_sub.result lent) ∙ ap (set_value (is_number c.args.stamp) rows) made in
     let due = ap (λ rows. due_to_all c.args.rep.now (items_of rows)) back in
     let set = due_set c.args.rep.now c.args.stamp rows entry (lent_entry c.args.rep.now entry) found in
     let none = none_due c.args.rep.now entry.message in
@@ -96,14 +96,14 @@ returns-clause-marked c =
     let written = written_rows queues 0 c.args.stamp lent within in
     let some : IsSome (item_at rows c.args.stamp) = rw found refl in
     let at : item_at (rows_at (writes_item queues 0 c.args.stamp lent) 0) c.args.stamp ≡ Some lent =
-        ap (λ (rs : List (ℕ × Entry)). item_at rs c.args.stamp) written ∙ at_set c.args.stamp rows lent c.args.stamp some ∙ rw (nat_eq_equiv.refl c.args.stamp) refl in
+    ap (λ (rs : List (ℕ × Entry)). item_at rs c.args.stamp) written ∙ at_set c.args.stamp rows lent c.args.stamp some ∙ rw (nat_eq_equiv.refl c.args.stamp) refl in
     let left : c.saturating_sub.result ≡ (lent_entry c.args.rep.now entry).waits =
-        c.saturating_sub.ensures ∙ ap (λ (n : ℕ). entry.waits - n) (c.lend_to-lent.ensures.count ∙ ap (λ (x : Entry). due_to c.args.rep.now x.message) same) in
+    c.saturating_sub.ensures ∙ ap (λ (n : ℕ). entry.waits - n) (c.lend_to-lent.ensures.count ∙ ap (λ (x : Entry). due_to c.args.rep.now x.message) same) in
     let message = c.lend_to-lent.ensures.message ∙ ap (λ (x : Entry). granted_message c.args.rep.now x.message) same in
     let made : with_waits c.saturating_sub.result lent ≡ lent_entry c.args.rep.now entry = λ i. record { message = message i; waits = left i } in
     let back : rows_at c.write_waits.new.queues 0 ≡ set_value (is_number c.args.stamp) rows (lent_entry c.args.rep.now entry) =
-        c.write_waits.ensures.rows lent at ∙ ap (λ (rs : List (ℕ × Entry)). set_value (is_number c.args.stamp) rs (with_waits c.saturating_sub.result lent)) written
-        ∙ set_twice c.args.stamp rows lent (with_waits c.saturating_sub.result lent) ∙ ap (set_value (is_number c.args.stamp) rows) made in
+    c.write_waits.ensures.rows lent at ∙ ap (λ (rs : List (ℕ × Entry)). set_value (is_number c.args.stamp) rs (with_waits c.saturating_sub.result lent)) written
+    ∙ set_twice c.args.stamp rows lent (with_waits c.saturating_sub.result lent) ∙ ap (set_value (is_number c.args.stamp) rows) made in
     marked_set c.args.stamp rows (rows_at c.write_waits.new.queues 0) (marked_at queues 0) (marked_at c.write_waits.new.queues 0) (lent_entry c.args.rep.now entry) some back
     (subst (λ (n : ℕ). PutsMark (marked_at queues 0) (marked_at c.write_waits.new.queues 0) c.args.stamp (n == 0)) left
     (subst (λ (ms : List ℕ). PutsMark ms (marked_at c.write_waits.new.queues 0) c.args.stamp (c.saturating_sub.result == 0)) (written_marked queues 0 c.args.stamp lent within) c.write_waits.ensures.marked)) c.requires.marked

@@ -1,5 +1,6 @@
-use Rattle.std.proofs.Common.{rules, ◌≡◌, ◌++◌, ◌+◌, Option, length, sym, ap, refl, arith, ◌∙◌}
+use Rattle.std.proofs.Common.{rules, ◌≡◌, ◌++◌, ◌+◌, Option, length, sym, ap, refl, ◌∙◌, add-zero}
 use Rattle.std.proofs.Math.ListN.{length-set}
+use lib.ListN.{set}
 use Rattle.std.proofs.lemmas.Bool.{eqb-false}
 use Rattle.std.proofs.lemmas.List.{append-nil}
 use Rattle.nob_slots.specs.Slots.{SlotList, is_marked}
@@ -127,8 +128,8 @@ returns-in_default-clause-room_to g c =
     let got = at_queue queues c.args.queue c.index-self-queue.result three c.requires.queue c.index-self-queue.is in
     let none = item_seen slots queues c.args.queue _ got c.self.invariant.0 c.args.number ∙ ap (item_or slots) (sym c.take.ensures.item ∙ c.in_default.is) in
     let empty = ap (λ (o : Option g.row.T.Denot). length (row_if c.args.under o)) none in
-    let same = ap (λ (s : SlotList g.row.T.Denot). s.room) (other_put slots queues c.args.queue _ got slots _ c.args.to (eqb-false c.args.to c.args.queue c.requires.apart) refl) in
-    rw (← c.self.view_is) (omega (arith, empty, same))
+    let same = ap (λ (s : SlotList g.row.T.Denot). s.room) (other_put slots queues c.args.queue _ got slots c.take.new.self c.args.to (eqb-false c.args.to c.args.queue c.requires.apart) refl) in
+    rw (← c.self.view_is) ((λ i. same i + empty i) ∙ add-zero _)
 
 pub returns-clause-room_to : goal.returns-clause-room_to
 returns-clause-room_to g c =
@@ -142,7 +143,5 @@ returns-clause-room_to g c =
     let found = sym c.take.ensures.item ∙ c.in-Some.is in
     let some = some_is _ (kept.there c.args.queue c.args.number c.in-Some.key (stands_here slots queues kept c.args.queue _ got c.args.number c.in-Some.key found)) in
     let one = ap (λ (o : Option g.row.T.Denot). length (row_if c.args.under o)) (item_seen slots queues c.args.queue _ got kept c.args.number ∙ ap (item_or slots) found ∙ some.1) in
-    let put = room_put slots _ c.args.to _ there slots _ in
-    let had = room_seen slots queues c.args.to _ was in
-    let used = c.push.ensures.room in
-    rw (← c.self.view_is) (omega (arith, one, put, had, used))
+    let put = room_put slots (set queues c.args.queue c.take.new.self) c.args.to _ there slots c.push.new.self in
+    rw (← c.self.view_is) ((λ i. put i + one i) ∙ c.push.ensures.room ∙ sym (room_seen slots queues c.args.to _ was))

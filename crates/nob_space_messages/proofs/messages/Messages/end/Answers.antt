@@ -35,8 +35,7 @@ invariant_of-self c =
     let new = c.take.new.self in
     let rows = rows_at queues 2 in
     let none = alone c.args.job rows c.len-count.ensures.rising ∙ ap (λ o. option_to_list (option_map (as_run c.args.job) o)) (ap (item_at rows) (sym c.get.ensures) ∙ sym c.take.ensures.item ∙ c.in_default.is) in
-    let same = ap newest_first (c.take.ensures.rows ∙ ap (λ (k : ℕ). remove_entry (is_number k) rows) c.get.ensures) ∙ taken c.args.job rows c.len-count.ensures.rising ∙ all_left c.args.job (newest_first rows) none in
-    (
+    let same = ap newest_first (c.take.ensures.rows ∙ ap (λ (k : ℕ). remove_entry (is_number k) rows) c.get.ensures) ∙ taken c.args.job rows c.len-count.ensures.rising ∙ all_left c.args.job (newest_first rows) none in (
       waiting_kept queues new c.self.inside.waits.froms c.self.inside.waits.lines c.self.inside.waits.next c.self.inside.waits.room (c.take.ensures.kept.others 0 refl) c.self.invariant.0,
       carried_kept queues new c.self.inside.waits.copies (c.take.ensures.kept.others 0 refl) c.self.invariant.1,
       c.self.invariant.2,
@@ -51,8 +50,7 @@ invariant_of-self-2 c =
     let new = c.take.new.self in
     let rows = rows_at queues 2 in
     let one = alone c.args.job rows c.len-count.ensures.rising ∙ ap (λ o. option_to_list (option_map (as_run c.args.job) o)) (ap (item_at rows) (sym c.get.ensures) ∙ sym c.take.ensures.item ∙ c.in-Some.is) in
-    let left = ap newest_first (c.take.ensures.rows ∙ ap (λ (k : ℕ). remove_entry (is_number k) rows) c.get.ensures) ∙ taken c.args.job rows c.len-count.ensures.rising in
-    (
+    let left = ap newest_first (c.take.ensures.rows ∙ ap (λ (k : ℕ). remove_entry (is_number k) rows) c.get.ensures) ∙ taken c.args.job rows c.len-count.ensures.rising in (
       waiting_kept queues new c.self.inside.waits.froms c.self.inside.waits.lines c.self.inside.waits.next c.self.inside.waits.room (c.take.ensures.kept.others 0 refl) c.self.invariant.0,
       carried_kept queues new c.self.inside.waits.copies (c.take.ensures.kept.others 0 refl) c.self.invariant.1,
       c.self.invariant.2,

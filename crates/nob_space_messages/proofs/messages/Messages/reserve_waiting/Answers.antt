@@ -17,8 +17,7 @@ invariant_of-self-in_err-reserve-3 c =
     let marked : marked_at new 0 ≡ marked_at old 0 = c.widen.ensures.marked ∙ ap (λ (q : SlotList Entry). q.marked) (same 0) in
     let more = ap (λ (q : SlotList Entry). q.room) (same 0) in
     let are = widened c.self.invariant.0 c.reserve-3.new.self c.reserve-3.ensures.lines c.reserve-3.ensures.reps c.reserve-3.ensures.room (room_at new 0) c.self.inside.waits.room c.reserve-2.new.self c.reserve-2.ensures.numbers
-        (λ some. omega (arith, c.self.invariant.0.entry_room some, c.widen.ensures.queue_room, more)) (λ some. omega (arith, c.self.invariant.0.stamp_room some, c.reserve-2.ensures.room)) (omega (arith, c.self.invariant.0.line_room, c.reserve-3.ensures.room)) c.self.invariant.0.small in
-    (
+    (λ some. omega (arith, c.self.invariant.0.entry_room some, c.widen.ensures.queue_room, more)) (λ some. omega (arith, c.self.invariant.0.stamp_room some, c.reserve-2.ensures.room)) (omega (arith, c.self.invariant.0.line_room, c.reserve-3.ensures.room)) c.self.invariant.0.small in (
       rw (rows, marked) are,
       rw rows c.self.invariant.1,
       c.self.invariant.2,
@@ -35,8 +34,7 @@ invariant_of-self-2 c =
     let rows : rows_at new 0 ≡ rows_at old 0 = c.widen.ensures.rows ∙ ap (λ (q : SlotList Entry). q.rows) (same 0) in
     let marked : marked_at new 0 ≡ marked_at old 0 = c.widen.ensures.marked ∙ ap (λ (q : SlotList Entry). q.marked) (same 0) in
     let are = widened c.self.invariant.0 c.reserve-3.new.self c.reserve-3.ensures.lines c.reserve-3.ensures.reps c.reserve-3.ensures.room (room_at new 0) (c.args.copies + 1) c.reserve-2.new.self c.reserve-2.ensures.numbers
-        (λ some. omega (arith, c.in_ok-widen.ensures.ok)) (λ some. omega (arith, c.in_ok-reserve-2.ensures.ok)) (omega (arith, c.in_ok-reserve-3.ensures.ok)) (omega (arith, c.if-self-gt-MOST.false, c.if-copies-ge-MOST.false)) in
-    (
+    (λ some. omega (arith, c.in_ok-widen.ensures.ok)) (λ some. omega (arith, c.in_ok-reserve-2.ensures.ok)) (omega (arith, c.in_ok-reserve-3.ensures.ok)) (omega (arith, c.if-self-gt-MOST.false, c.if-copies-ge-MOST.false)) in (
       rw (rows, marked) are,
       rw rows c.self.invariant.1,
       c.self.invariant.2,
