@@ -101,6 +101,23 @@ impl Config {
         limits.window == self.limits.window && limits.retry == self.limits.retry
     }
 
+    /// Whether another node would run the same.
+    pub fn is_same(&self, other: &Config) -> bool
+        ensures { (result ≡ true) ↔ ((self.now.space ≡ other.now.space)
+            × (self.now.n ≡ other.now.n) × (self.now.limits ≡ other.now.limits)
+            × (self.now.workers ≡ other.now.workers) × (self.now.pause ≡ other.now.pause)
+            × (self.now.tick_every ≡ other.now.tick_every)
+            × (self.now.keep ≡ other.now.keep)) }
+    {
+        self.space == other.space
+            && self.n == other.n
+            && other.has_limits(self.limits)
+            && self.workers == other.workers
+            && self.pause == other.pause
+            && self.tick_every == other.tick_every
+            && self.keep == other.keep
+    }
+
     /// What the node keeps of its entries.
     pub fn keep(&self) -> Keep
         ensures { result ≡ self.now.keep }

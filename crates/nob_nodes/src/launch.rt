@@ -13,7 +13,7 @@ use std::thread::Threads;
 
 /// A node to be run, one of several, with its ends of links.
 #[derive(Drop)]
-pub struct Start {
+pub(crate) struct Launch {
     alloc: Global,
     space: SpaceId,
     // How many spaces there are.
@@ -22,10 +22,10 @@ pub struct Start {
     ends: Vec<Ends>,
 }
 
-impl Start {
+impl Launch {
     // The node of a space, one of so many, without links.
-    pub(crate) fn new(alloc: Global, space: SpaceId, spaces: u16, config: Config) -> Start {
-        Start {
+    pub(crate) fn new(alloc: Global, space: SpaceId, spaces: u16, config: Config) -> Launch {
+        Launch {
             alloc,
             space,
             spaces,
@@ -39,17 +39,16 @@ impl Start {
         self.ends.push(ends).ok()
     }
 
-    /// Runs the node in this thread, with a player who meets the others there, until all have
-    /// returned: the player, with what the node leaves. Whoever returns, or can't come, leaves the
-    /// meeting; the last that does wakes those that have returned.
-    pub fn play<O: Object + Send, R: Threads + Wait + Sync, G: Gate + Sync, A: Player<O> + Drop>(
-        self,
-        rt: &R,
-        meeting: &Meeting,
-        gate: &G,
-        player: A,
-    ) -> Played<O, A> {
-        let Start {
+    // Runs the node in this thread, with a player who meets the others there, until all have
+    // returned: the player, with what the node leaves. Whoever returns, or can't come, leaves the
+    // meeting; the last that does wakes those that have returned.
+    pub(crate) fn play<
+        O: Object + Send,
+        R: Threads + Wait + Sync,
+        G: Gate + Sync,
+        A: Player<O> + Drop,
+    >(self, rt: &R, meeting: &Meeting, gate: &G, player: A) -> Played<O, A> {
+        let Launch {
             alloc,
             space,
             spaces,
@@ -77,15 +76,15 @@ impl Start {
         }
     }
 
-    /// Doesn't run the node, for want of a thread: the ends of its links go, so no peer waits for
-    /// it, and its player is skipped and leaves the meeting.
-    pub fn skip<O: Object, R: Wait, A: Player<O> + Drop>(
+    // Doesn't run the node, for want of a thread: the ends of its links go, so no peer waits for
+    // it, and its player is skipped and leaves the meeting.
+    pub(crate) fn skip<O: Object, R: Wait, A: Player<O> + Drop>(
         self,
         rt: &R,
         meeting: &Meeting,
         mut player: A,
     ) -> Played<O, A> {
-        let Start {
+        let Launch {
             alloc,
             config,
             ends,

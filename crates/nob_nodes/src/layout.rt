@@ -1,14 +1,14 @@
 //! How nodes run, and what the links between them do.
 
 ghost use Rattle.std.specs.Prelude.{◌≡◌, IfSome};
-ghost use Rattle.nob_nodes.specs.Shapes.{IsShaped};
+ghost use Rattle.nob_nodes.specs.Layouts.{IsLaidOut};
 
 use nob_ids::{Limits, SpaceId};
 use nob_node::{Config, Keep};
 
 /// How the nodes of a program run, each in the same way, and what the links between them do.
 #[derive(Clone, Copy, Debug)]
-pub struct Shape {
+pub struct Layout {
     /// The limits of all sessions.
     pub limits: Limits,
     /// So many workers a node has: 1 to 16.
@@ -29,13 +29,13 @@ pub struct Shape {
     pub seed: u64,
 }
 
-impl Shape {
+impl Layout {
     /// Two workers a node, which keeps this of its entries; links of 64 parcels that lose nothing;
     /// no ticks.
-    pub fn new(keep: Keep) -> Shape
+    pub fn new(keep: Keep) -> Layout
         ensures { result.keep ≡ keep }
     {
-        Shape {
+        Layout {
             limits: Limits::default(),
             workers: 2,
             pause: 8,
@@ -49,7 +49,7 @@ impl Shape {
 
     // How the node of a space runs, one of so many. `None` where a number is out of its range.
     pub(crate) fn config(self, space: SpaceId, count: u16) -> Option<Config>
-        ensures { IfSome result (λ config. IsShaped self space count config) }
+        ensures { IfSome result (λ config. IsLaidOut self space count config) }
     {
         let config = Config::new(
             space,
