@@ -4,18 +4,19 @@ ghost use Rattle.std.specs.Prelude.{◌≡◌, ◌≢◌, ◌<◌, [], List, Som
 ghost use Rattle.nob_dispatch.specs.Assigning as assigning;
 ghost use Rattle.nob_dispatch.specs.Stakes as ends;
 ghost use Rattle.nob_model_types.specs.declared.answer.Job.{Job as JobOf};
-ghost use Rattle.nob_dispatch_jobs.specs.Dispatching as dispatching;
-ghost use Rattle.nob_dispatch_jobs.specs.Ends.{claimed};
+ghost use Rattle.nob_dispatch.specs.Dispatching as dispatching;
+ghost use Rattle.nob_dispatch.specs.Ends.{claimed};
 ghost use Rattle.nob_dispatch.specs.Serving as serving;
-ghost use Rattle.nob_dispatch_jobs.specs.Shelves as shelves;
-ghost use Rattle.nob_dispatch_jobs.specs.declared.shelf.Place.TheVariants.{Here, Away};
+ghost use Rattle.nob_dispatch.specs.Shelves as shelves;
+ghost use Rattle.nob_dispatch.specs.declared.shelf.Place.TheVariants.{Here, Away};
 
-use nob_dispatch_jobs::{
-    AddError, Dispatcher, Errand, Handing, JobCalls, KeeperError, Place, Remaining, Return, Seat,
-    Shelf,
-};
+use crate::calls::JobCalls;
+use crate::dispatcher::{Dispatcher, Handing, Remaining};
+use crate::errand::{Errand, Return};
+use crate::shelf::{AddError, Place, Shelf};
 use nob_dispatch_lanes::{LanePut, LaneTake, MOST_ERRANDS};
 use nob_dispatch_objects::Object;
+use nob_keeper::{KeeperError, Seat};
 use nob_model_types::Job;
 use std::alloc::Global;
 use std::marker::Model;

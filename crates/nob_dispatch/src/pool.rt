@@ -2,8 +2,9 @@
 
 ghost use Rattle.std.specs.Prelude.{◌≡◌, None};
 
+use crate::calls::JobCalls;
+use crate::gate::Gate;
 use crate::hand::{Deed, Hand, is_memory};
-use nob_dispatch_jobs::{Gate, JobCalls};
 use nob_dispatch_objects::Object;
 use std::sync::Wait;
 use std::sync::atomic::AtomicU64;

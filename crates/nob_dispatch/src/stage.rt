@@ -1,8 +1,8 @@
 //! How far a job is.
 
 ghost use Rattle.std.specs.Prelude.{◌≡◌, ◌≢◌, ◌∷◌, Some, None, true, false, IfOk, OnErr};
-ghost use Rattle.nob_dispatch_jobs.specs.Ends.{finishes, is_claim, ended, claimed, was_accepted};
-ghost use Rattle.nob_dispatch_jobs.specs.declared.stage.AfterFinish.TheVariants.{Ended};
+ghost use Rattle.nob_dispatch.specs.Ends.{finishes, is_claim, ended, claimed, was_accepted};
+ghost use Rattle.nob_dispatch.specs.declared.stage.AfterFinish.TheVariants.{Ended};
 
 use crate::calls::JobCalls;
 use crate::errand::Errand;

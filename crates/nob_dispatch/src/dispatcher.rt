@@ -3,10 +3,10 @@
 ghost use Rattle.std.specs.Prelude.{◌≡◌, ◌≢◌, ◌<◌, ◌+◌, ◌∷◌, [], ⊤, ℕ, List, true, false, None, Some, Ok, length, slice_index_or, OnOk, OnErr, IfOk, IfSome, MatchOption, MatchResult};
 ghost use Rattle.nob_model_types.specs.declared.answer.Job.{Job as JobOf};
 ghost use Rattle.nob_dispatch_lanes.specs.Balance.{weigh};
-ghost use Rattle.nob_dispatch_jobs.specs.Dispatching as dispatching;
-ghost use Rattle.nob_dispatch_jobs.specs.Ends.{claimed};
-ghost use Rattle.nob_dispatch_jobs.specs.Shelves as shelves;
-ghost use Rattle.nob_dispatch_jobs.specs.declared.shelf.Place.TheVariants.{Here, Away};
+ghost use Rattle.nob_dispatch.specs.Dispatching as dispatching;
+ghost use Rattle.nob_dispatch.specs.Ends.{claimed};
+ghost use Rattle.nob_dispatch.specs.Shelves as shelves;
+ghost use Rattle.nob_dispatch.specs.declared.shelf.Place.TheVariants.{Here, Away};
 
 use crate::calls::JobCalls;
 use crate::errand::{Errand, Return};
@@ -63,7 +63,7 @@ pub struct Dispatcher<O: Object> {
 }
 
 impl<O: Object> Model for Dispatcher<O> {
-    ghost use Rattle.nob_dispatch_jobs.specs.Dispatching.{Dispatching, job_in};
+    ghost use Rattle.nob_dispatch.specs.Dispatching.{Dispatching, job_in};
 
     ghost Value = { Dispatching O };
 

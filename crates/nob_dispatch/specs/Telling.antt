@@ -7,8 +7,8 @@ use Rattle.nob_model_types.specs.declared.refusal.Refusal.TheVariants as refusal
 use Rattle.nob_kept.specs.declared.receipt.Receipt.{Receipt}
 use Rattle.nob_dispatch_objects.specs.declared.object.Done.{Done}
 use Rattle.nob_dispatch_objects.specs.declared.object.Done.TheVariants as dones
-use Rattle.nob_dispatch_jobs.specs.declared.stage.Stage.{Stage}
-use Rattle.nob_dispatch_jobs.specs.declared.stage.Stage.TheVariants as stages
+use Rattle.nob_dispatch.specs.declared.stage.Stage.{Stage}
+use Rattle.nob_dispatch.specs.declared.stage.Stage.TheVariants as stages
 
 -- what came of that which a method asked for, by its result
 abbrev pub done_by : Result Answer Refusal → Done

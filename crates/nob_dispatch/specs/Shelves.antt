@@ -3,8 +3,8 @@ use Rattle.std.specs.Prelude.{ℕ, Bool, true, false, List, Option, Some, None}
 use Rattle.std.specs.Ordering.{nat_cmp, is_eq}
 use Rattle.std.specs.Map.{lookup, remove_entry}
 use Rattle.std.specs.BTreeMap.{insert_entry}
-use Rattle.nob_dispatch_jobs.specs.declared.shelf.Place.{Place}
-use Rattle.nob_dispatch_jobs.specs.declared.shelf.Place.TheVariants.{Here, Away}
+use Rattle.nob_dispatch.specs.declared.shelf.Place.{Place}
+use Rattle.nob_dispatch.specs.declared.shelf.Place.TheVariants.{Here, Away}
 
 -- whether two indexes are the same
 abbrev pub same_index : ℕ → ℕ → Bool

@@ -1,7 +1,7 @@
 //! What a method that runs is told, and what is next for it.
 
 ghost use Rattle.std.specs.Prelude.{◌≡◌, IfOk};
-ghost use Rattle.nob_dispatch_jobs.specs.Telling as telling;
+ghost use Rattle.nob_dispatch.specs.Telling as telling;
 
 use crate::stage::Stage;
 use nob_dispatch_objects::Done;

@@ -4,15 +4,15 @@ use Rattle.nob_model_types.specs.declared.answer.Job.{Job}
 use Rattle.nob_kept.specs.declared.receipt.Receipt.{Receipt}
 use Rattle.nob_kept.specs.declared.error.KeeperError.{KeeperError}
 use Rattle.nob_dispatch_lanes.specs.Balance.{times, weigh}
-use Rattle.nob_dispatch_jobs.specs.declared.dispatcher.Handing.{Handing}
-use Rattle.nob_dispatch_jobs.specs.declared.dispatcher.Handing.TheVariants as handings
-use Rattle.nob_dispatch_jobs.specs.declared.dispatcher.Remaining.{Remaining}
-use Rattle.nob_dispatch_jobs.specs.declared.errand.Errand.{Errand}
-use Rattle.nob_dispatch_jobs.specs.declared.shelf.Place.{Place}
-use Rattle.nob_dispatch_jobs.specs.declared.shelf.Place.TheVariants.{Here, Away}
-use Rattle.nob_dispatch_jobs.specs.declared.stage.Finish.{Finish}
-use Rattle.nob_dispatch_jobs.specs.Ends.{ended, claimed, job_of, numbers, with_job}
-use Rattle.nob_dispatch_jobs.specs.Shelves.{place_of, with_place}
+use Rattle.nob_dispatch.specs.declared.dispatcher.Handing.{Handing}
+use Rattle.nob_dispatch.specs.declared.dispatcher.Handing.TheVariants as handings
+use Rattle.nob_dispatch.specs.declared.dispatcher.Remaining.{Remaining}
+use Rattle.nob_dispatch.specs.declared.errand.Errand.{Errand}
+use Rattle.nob_dispatch.specs.declared.shelf.Place.{Place}
+use Rattle.nob_dispatch.specs.declared.shelf.Place.TheVariants.{Here, Away}
+use Rattle.nob_dispatch.specs.declared.stage.Finish.{Finish}
+use Rattle.nob_dispatch.specs.Ends.{ended, claimed, job_of, numbers, with_job}
+use Rattle.nob_dispatch.specs.Shelves.{place_of, with_place}
 
 -- a dispatcher, as contracts see it
 pub record Dispatching (O : Type 0) : Type 0 where

@@ -3,13 +3,13 @@ use Rattle.std.specs.Prelude.{◌≡◌, ℕ, Bool, true, false, List, Option, S
 use Rattle.nob_model_types.specs.declared.answer.Job.{Job}
 use Rattle.nob_kept.specs.declared.receipt.Receipt.{Receipt}
 use Rattle.nob_kept.specs.declared.error.KeeperError.{KeeperError}
-use Rattle.nob_dispatch_jobs.specs.declared.errand.Errand.{Errand}
-use Rattle.nob_dispatch_jobs.specs.declared.errand.Return.{Return}
-use Rattle.nob_dispatch_jobs.specs.declared.stage.Keeping.{Keeping}
-use Rattle.nob_dispatch_jobs.specs.declared.stage.Keeping.TheVariants as keeps
-use Rattle.nob_dispatch_jobs.specs.declared.worker.Progress.{Progress}
-use Rattle.nob_dispatch_jobs.specs.declared.worker.Progress.TheVariants as progresses
-use Rattle.nob_dispatch_jobs.specs.Ends.{ended, number_in, target_in, with_job}
+use Rattle.nob_dispatch.specs.declared.errand.Errand.{Errand}
+use Rattle.nob_dispatch.specs.declared.errand.Return.{Return}
+use Rattle.nob_dispatch.specs.declared.stage.Keeping.{Keeping}
+use Rattle.nob_dispatch.specs.declared.stage.Keeping.TheVariants as keeps
+use Rattle.nob_dispatch.specs.declared.worker.Progress.{Progress}
+use Rattle.nob_dispatch.specs.declared.worker.Progress.TheVariants as progresses
+use Rattle.nob_dispatch.specs.Ends.{ended, number_in, target_in, with_job}
 
 -- a worker, as contracts see it: its receipts, the number of the job that it keeps, and that job while it has its object
 pub record Working : Type 0 where

@@ -5,7 +5,7 @@ use Rattle.std.specs.List.{remove}
 use Prim.Native.Nat.{zero, suc}
 use Rattle.nob_model_types.specs.declared.answer.Job.{Job}
 use Rattle.nob_dispatch_lanes.specs.Balance.{times, weigh}
-use Rattle.nob_dispatch_jobs.specs.Ends.{numbers, with_job}
+use Rattle.nob_dispatch.specs.Ends.{numbers, with_job}
 
 weigh_remove : (h : Job → ℕ) (i : ℕ) (jobs : List Job) (d : Job) → i < length jobs → weigh h jobs ≡ weigh h (slice_index_or jobs i d ∷ remove jobs i)
 weigh_remove h i [] d low = omega (arith, low)

@@ -1,8 +1,8 @@
 use Rattle.std.proofs.Common.{Bool, ap, sym, ◌∙◌}
-use Rattle.nob_dispatch_jobs.specs.Dispatching.{Dispatching, due_in, job_in}
-use Rattle.nob_dispatch_jobs.specs.Ends.{claimed, ended, with_job}
-use Rattle.nob_dispatch_jobs.proofs.Ties.{kept_parts}
-use Rattle.nob_dispatch_jobs.proofs.dispatcher.Dispatcher.hand_on.Goals as goal
+use Rattle.nob_dispatch.specs.Dispatching.{Dispatching, due_in, job_in}
+use Rattle.nob_dispatch.specs.Ends.{claimed, ended, with_job}
+use Rattle.nob_dispatch.proofs.Ties.{kept_parts}
+use Rattle.nob_dispatch.proofs.dispatcher.Dispatcher.hand_on.Goals as goal
 
 pub returns-then-must_wait-clause-tied : goal.returns-then-must_wait-clause-tied
 returns-then-must_wait-clause-tied g c =

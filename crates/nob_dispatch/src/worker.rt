@@ -1,8 +1,8 @@
 //! Who carries jobs out.
 
 ghost use Rattle.std.specs.Prelude.{◌≡◌, ◌≢◌, ◌∷◌, [], Some, None, true, OnOk, OnErr, IfErr, IfSome, MatchOption};
-ghost use Rattle.nob_dispatch_jobs.specs.Ends.{ended};
-ghost use Rattle.nob_dispatch_jobs.specs.Working as working;
+ghost use Rattle.nob_dispatch.specs.Ends.{ended};
+ghost use Rattle.nob_dispatch.specs.Working as working;
 
 use crate::calls::JobCalls;
 use crate::errand::{Errand, Return};
@@ -40,7 +40,7 @@ pub struct Worker<O: Object> {
 }
 
 impl<O: Object> Model for Worker<O> {
-    ghost use Rattle.nob_dispatch_jobs.specs.Working.{Working, job_in, running_in};
+    ghost use Rattle.nob_dispatch.specs.Working.{Working, job_in, running_in};
 
     ghost Value = { Working };
 

@@ -1,11 +1,11 @@
 use Rattle.std.proofs.Common.{◌≡◌, ℕ, ◌∷◌, Option, ap, sym, subst, ◌∙◌}
 use Rattle.nob_model_types.specs.declared.answer.Job.{Job}
 use Rattle.nob_dispatch_lanes.specs.Balance.{weigh}
-use Rattle.nob_dispatch_jobs.specs.declared.stage.Finish.{Finish}
-use Rattle.nob_dispatch_jobs.specs.Dispatching.{Dispatching, due_in, job_in}
-use Rattle.nob_dispatch_jobs.specs.Ends.{claimed, ended, with_job}
-use Rattle.nob_dispatch_jobs.proofs.Ties.{Parts, once_behind, handed_parts, ending_parts}
-use Rattle.nob_dispatch_jobs.proofs.dispatcher.Dispatcher.serve_waiting.Goals as goal
+use Rattle.nob_dispatch.specs.declared.stage.Finish.{Finish}
+use Rattle.nob_dispatch.specs.Dispatching.{Dispatching, due_in, job_in}
+use Rattle.nob_dispatch.specs.Ends.{claimed, ended, with_job}
+use Rattle.nob_dispatch.proofs.Ties.{Parts, once_behind, handed_parts, ending_parts}
+use Rattle.nob_dispatch.proofs.dispatcher.Dispatcher.serve_waiting.Goals as goal
 
 pub returns-in_default-serve-clause-tied : goal.returns-in_default-serve-clause-tied
 returns-in_default-serve-clause-tied g c =

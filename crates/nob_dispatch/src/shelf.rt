@@ -1,9 +1,9 @@
 //! The objects of a space, by their indexes.
 
 ghost use Rattle.std.specs.Prelude.{◌≡◌, ◌≢◌, ◌⊎◌, ◌∷◌, [], Some, None, Err, IsSome, IfErr, OnOk, OnErr, MatchOption, MatchResult};
-ghost use Rattle.nob_dispatch_jobs.specs.Shelves as shelves;
-ghost use Rattle.nob_dispatch_jobs.specs.declared.shelf.AddError.TheVariants as add_errors;
-ghost use Rattle.nob_dispatch_jobs.specs.declared.shelf.Place.TheVariants.{Here, Away};
+ghost use Rattle.nob_dispatch.specs.Shelves as shelves;
+ghost use Rattle.nob_dispatch.specs.declared.shelf.AddError.TheVariants as add_errors;
+ghost use Rattle.nob_dispatch.specs.declared.shelf.Place.TheVariants.{Here, Away};
 
 use nob_dispatch_objects::Object;
 use std::alloc::Global;
@@ -37,7 +37,7 @@ pub struct Shelf<O: Object> {
 
 impl<O: Object> Model for Shelf<O> {
     ghost use Rattle.std.specs.Prelude.{ℕ, List};
-    ghost use Rattle.nob_dispatch_jobs.specs.declared.shelf.Place.{Place};
+    ghost use Rattle.nob_dispatch.specs.declared.shelf.Place.{Place};
 
     ghost Value = { List (ℕ × Place O) };
 
