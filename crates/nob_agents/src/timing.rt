@@ -7,14 +7,14 @@ use nob_ids::SpaceId;
 use nob_keeper::{Due, is_new};
 use nob_model_types::Event;
 
-/// So many turns an Ack waits for items that it could go with.
+/// For how many turns an Ack waits for items that it could go with.
 const ACK_PAUSE: u32 = 2;
 
 /// After so many repeats to a peer that had nothing new meanwhile the time until the next one
 /// doubles.
 const REPEATS_AT_A_PACE: u32 = 16;
 
-/// So often that time doubles at most.
+/// How often that time doubles at most.
 const MAX_DOUBLINGS: u32 = 5;
 
 /// When an agent that sends transmits to whom: what is new at once; an Ack alone after some turns,
@@ -28,7 +28,7 @@ pub(crate) struct Timing {
     turns: [u32; 32],
     // At place p - 1: so often what is out to space p was transmitted again, and nothing new was.
     repeats: [u32; 32],
-    // So many pauses passed before repeats since the last tick.
+    // How many pauses passed before repeats since the last tick.
     pauses: u32,
     tick: Option<SpaceId>,
 }
@@ -120,8 +120,7 @@ impl Timing {
         Event::Transmit(peer)
     }
 
-    // So many pauses more have passed: the session with this peer ticks where they are as many as a
-    // tick takes.
+    // More pauses have passed: the session with this peer ticks where they are as many as a tick takes.
     fn count_pauses(&mut self, peer: SpaceId, pauses: u32) {
         if self.tick_every == 0 {
             return;

@@ -22,8 +22,8 @@ use std::alloc::Global;
 use std::marker::Model;
 use std::sync::Wait;
 
-/// So many objects are away at a time at most: a lane that holds 1,024 is never full.
-pub const MOST_AWAY: u64 = 512;
+/// The maximum number of objects that are away at a time: half of what a lane holds, so that giving never waits.
+pub const MAX_AWAY: u64 = 512;
 
 /// What a desk did in a turn.
 #[derive(Clone, Copy, Debug, PartialEq, Eq)]
@@ -47,7 +47,7 @@ pub struct Desk<O: Object> {
     dispatcher: Dispatcher<O>,
     errands: LanePut<Errand<O>>,
     returns: LaneTake<Return<O>>,
-    // So many objects were given and haven't come back.
+    // How many objects were given and haven't come back.
     away: u64,
     // The job of the errand that couldn't be given, since nobody gets any more.
     unsent: Option<Job>,
@@ -197,7 +197,7 @@ impl<O: Object> Desk<O> {
         if self.unsent.is_some() {
             return Ok(Assigned::Idle);
         }
-        if self.away >= MOST_AWAY {
+        if self.away >= MAX_AWAY {
             return Ok(Assigned::Later);
         }
         self.hand_on(rt, keeper)

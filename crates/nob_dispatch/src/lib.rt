@@ -15,7 +15,7 @@ mod telling;
 mod worker;
 
 pub use calls::JobCalls;
-pub use desk::{Assigned, Desk, MOST_AWAY};
+pub use desk::{Assigned, Desk, MAX_AWAY};
 pub use dispatcher::{Dispatcher, Handing, Remaining};
 pub use errand::{Errand, Return};
 pub use gate::{Gate, OpenGate};

@@ -10,11 +10,11 @@ use nob_ids::{Limits, SpaceId};
 use nob_keeper::Keep;
 use nob_link::{PutEnd, TakeEnd};
 
-/// So many spaces there are at most.
-const MOST_SPACES: u16 = 32;
+/// The number of spaces in the largest world.
+const MAX_SPACES: u16 = 32;
 
-/// So many workers a node has at most.
-const MOST_WORKERS: usize = 16;
+/// The maximum number of workers of a node.
+const MAX_WORKERS: usize = 16;
 
 /// How a node runs.
 #[derive(Clone, Copy, Debug)]
@@ -51,10 +51,10 @@ impl Config {
             × (config.pause ≡ pause) × (config.tick_every ≡ tick_every)
             × (config.keep ≡ keeps.All)) }
     {
-        if n == 0 || n > MOST_SPACES || space.get() > n {
+        if n == 0 || n > MAX_SPACES || space.get() > n {
             return None;
         }
-        if workers == 0 || workers > MOST_WORKERS {
+        if workers == 0 || workers > MAX_WORKERS {
             return None;
         }
         Some(Config {

@@ -11,7 +11,7 @@ use nob_node::{Config, Keep};
 pub struct Layout {
     /// The limits of all sessions.
     pub limits: Limits,
-    /// So many workers a node has: 1 to 16.
+    /// The workers of a node: 1 to 16.
     pub workers: usize,
     /// What is out is transmitted again after a pause of so many turns, and less often where a peer
     /// answers nothing for long.
@@ -20,9 +20,9 @@ pub struct Layout {
     pub tick_every: u32,
     /// What a node keeps of its entries.
     pub keep: Keep,
-    /// So many parcels a link holds: 1 to 1,024.
+    /// How many parcels a link holds: 1 to 1,024.
     pub capacity: usize,
-    /// About so many frames of ten a link loses, 0 to 9, of its first 10,000; others it repeats or
+    /// About how many frames of ten a link loses, 0 to 9, of its first 10,000; others it repeats or
     /// keeps back. Where this is 0 all go on as they came.
     pub loss: u64,
     /// Where the chances of the links start.

@@ -20,7 +20,7 @@ pub struct Nodes {
 }
 
 impl Nodes {
-    /// So many nodes, of which no two are linked. `None` where memory is wanted, or a number of the
+    /// As many nodes, of which no two are linked. `None` where memory is wanted, or a number of the
     /// layout is out of its range.
     pub fn new(alloc: Global, layout: Layout, count: u16) -> Option<Nodes>
         ensures { IfSome result (λ nodes. nodes.layout ≡ layout) }

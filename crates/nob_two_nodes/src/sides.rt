@@ -1,6 +1,6 @@
 //! The two sides.
 
-ghost use Rattle.std.specs.Prelude.{◌≡◌, IfSome};
+ghost use Rattle.std.specs.Prelude.{◌≡◌, length, IfSome};
 ghost use Rattle.nob_two_nodes.specs.Partners as partners;
 
 use nob_dispatch_objects::Object;
@@ -54,7 +54,9 @@ pub(crate) fn both_sides<A: Drop, B: Drop>(
     alloc: Global,
     first: A,
     second: B,
-) -> Option<Vec<Side<A, B>>> {
+) -> Option<Vec<Side<A, B>>>
+    ensures { IfSome result (λ sides. length sides.items ≡ 2) }
+{
     let mut sides = Vec::with_capacity(alloc, 2).ok()?;
     sides.push(Side::First(first)).ok()?;
     sides.push(Side::Second(second)).ok()?;

@@ -14,10 +14,10 @@ use std::alloc::Global;
 use std::sync::Wait;
 use std::thread::Threads;
 
-/// So many objects are called, each by as many callers.
+/// How many objects are called, each by as many callers.
 const COUNTERS: u16 = 16;
 
-/// So many calls each caller makes.
+/// How many calls each caller makes.
 const CALLS: usize = 625;
 
 /// An application: that of space 1 has the objects.

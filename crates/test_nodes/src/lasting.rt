@@ -9,7 +9,7 @@ use std::alloc::Global;
 use std::sync::Wait;
 use std::thread::Threads;
 
-/// So many calls are made.
+/// How many calls are made.
 const CALLS: u64 = 20_000;
 
 /// Each node makes more entries than this: five for each call.
