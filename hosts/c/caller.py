@@ -1,134 +1,100 @@
 #!/usr/bin/env python3
-"""Calls the counter of a node in Rust, over the functions of masttomato.h: caller.py LIBRARY NUMBER PORT [TIMES].
+"""Calls the counter of a node in Rust, by the functions of masttomato.h: caller.py LIBRARY NUMBER PORT [TIMES].
 
-LIBRARY is the library as one that can be loaded (tools/host-c makes one), NUMBER the space that this is, which no process of the world
-has used before, and PORT where space 1 listens on 127.0.0.1. It adds 20 so many times, and prints each total. What goes over the
-connection stands in docs/WIRE.md.
+LIBRARY is one that can be loaded (tools/host-c makes it), NUMBER the space that this is, which no process of the world has used before,
+and PORT where space 1 listens on 127.0.0.1. It adds 20 so many times, and prints each total. docs/WIRE.md says what goes over the connection.
 """
 
 import ctypes
-import pathlib
 import re
 import secrets
 import socket
 import struct
 import sys
 
-OWNER, SPACES, WORLD, VERSION, WINDOW = 1, 32, b"", 4, 64
+OWNER, SPACES, VERSION, WINDOW = 1, 32, 4, 64
 FRAMES, PING, PONG, BYE = range(4)
-TYPES = {"uint16_t": ctypes.c_uint16, "uint32_t": ctypes.c_uint32, "uint64_t": ctypes.c_uint64, "size_t": ctypes.c_size_t, "bool": ctypes.c_bool}
-CODES = {}
+HELLO, HEAD = struct.Struct(">4sHHHBB16sQ28x"), struct.Struct(">IB3xQ")
+CODES, TYPES = {}, {"bool": ctypes.c_bool, "size_t": ctypes.c_size_t, "void *": ctypes.c_void_p, "uint8_t *": ctypes.c_char_p}
+TYPES |= {f"uint{bits}_t": getattr(ctypes, f"c_uint{bits}") for bits in (16, 32, 64)}
 
 
-def load(path):
-    """The library, with its types, numbers and functions as the header declares them."""
-    library = ctypes.CDLL(path)
-    header = re.sub(r"/\*.*?\*/", "", pathlib.Path(__file__).with_name("masttomato.h").read_text(), flags=re.S)
+def declared(library):
+    """The library, with the numbers, types and functions that the header declares."""
+    header = re.sub(r"/\*.*?\*/", "", open(f"{sys.path[0]}/masttomato.h").read(), flags=re.S)
     CODES.update((name, int(number)) for name, number in re.findall(r"(NOB_\w+) = (\d+)", header))
     for body, name in re.findall(r"typedef struct \w+ \{(.*?)\} (\w+);", header, re.S):
-        fields = [re.fullmatch(r"\s*(\w+) (\*?)(\w+)", it) for it in body.split(";")[:-1]]
-        TYPES[name] = type(name, (ctypes.Structure,), {"_fields_": [(it[3], ctypes.c_void_p if it[2] else TYPES[it[1]]) for it in fields]})
+        fields = [(field, TYPES[kind.strip()]) for kind, field in re.findall(r"(\w+ \*?)(\w+);", body)]
+        TYPES[name] = type(name, (ctypes.Structure,), {"_fields_": fields})
+    TYPES.update({f"{name} *": ctypes.POINTER(kind) for name, kind in TYPES.items()} | TYPES)  # those that were there stay
     for answer, name, parameters in re.findall(r"^(\w+) (nob_\w+)\((.*)\);", header, re.M):
         function = getattr(library, name)
         function.restype = TYPES.get(answer)
-        found = re.findall(r"(?:const )?(\w+) (\*?)\w+(?:, |$)", parameters)
-        function.argtypes = [ctypes.c_char_p if kind == "uint8_t" else ctypes.POINTER(TYPES[kind]) if star else TYPES[kind] for kind, star in found]
+        function.argtypes = [TYPES[kind.strip()] for kind in re.findall(r"(\w+ \*?)\w+(?:, |$)", parameters)]
     return library
 
 
 class Caller:
-    """A space that calls another one over a connection."""
+    """A space that calls another one over a connection. What is refused is an error, and so is a connection that breaks."""
 
     def __init__(self, library, number, port):
-        self.library, self.handle, self.stamp = library, TYPES["NobHandle"](), 0
-        if (version := library.nob_version()) != CODES["NOB_VERSION"]:
-            raise ValueError(f"the library has functions of version {version}, and masttomato.h those of {CODES['NOB_VERSION']}")
-        if status := library.nob_new(self.handle, number, SPACES, WINDOW, 16):
-            raise ValueError(f"space {number}: status {status}")
-        self.stream = socket.create_connection(("127.0.0.1", port))
-        self.stream.sendall(struct.pack(">4sHHHBB16sQ28x", b"NOBN", VERSION, number, SPACES, 0, WINDOW, WORLD, secrets.randbits(64)))
-        _, version, space, _, refused, _, _, _ = struct.unpack(">4sHHHBB16sQ28x", self.read(64))
+        self.library, self.handle = library, TYPES["NobHandle"]()
+        if library.nob_version() != CODES["NOB_VERSION"] or library.nob_new(self.handle, number, SPACES, WINDOW, 16):
+            raise ValueError(f"the library isn't of the header's version, or there is no space {number}")
+        self.socket = socket.create_connection(("127.0.0.1", port))
+        self.socket.sendall(HELLO.pack(b"NOBN", VERSION, number, SPACES, 0, WINDOW, b"", secrets.randbits(64)))
+        _, version, space, _, refused, *_ = HELLO.unpack(self.socket.recv(HELLO.size, socket.MSG_WAITALL))
         if version != VERSION or refused or space != OWNER:
             raise ConnectionError(f"space {space}, whose hello has version {version}, refuses this one: {refused}")
 
     def ask(self, name, *words):
+        """What is told, or None where there is nothing to do."""
         told = TYPES["NobTold"]()
-        if status := getattr(self.library, f"nob_{name}")(self.handle, *words, told):
+        status = getattr(self.library, f"nob_{name}")(self.handle, *words, told)
+        if status not in (CODES["NOB_OK"], CODES["NOB_NO_FRAME"], CODES["NOB_NOTHING_TO_DO"]):
             raise ValueError(f"{name}: status {status}")
-        return told
+        return told if status == CODES["NOB_OK"] else None
 
     def answer(self):
-        length = self.library.nob_answer(self.handle, b"", 0)
-        room = ctypes.create_string_buffer(length + 1)
-        self.library.nob_answer(self.handle, room, length)
-        return room.raw[:length]
+        room = ctypes.create_string_buffer(self.library.nob_answer(self.handle, b"", 0))
+        return room[: self.library.nob_answer(self.handle, room, len(room))]
 
-    def read(self, length):
-        came = b""
-        while len(came) < length:
-            came += (piece := self.stream.recv(length - len(came)))
-            if not piece:
-                raise ConnectionError("the connection has broken")
-        return came
-
-    def write(self, kind, body=b""):
-        self.stream.sendall(struct.pack(">IB3xQ", len(body), kind, self.stamp) + body)
-
-    def work(self):
-        """Does all that there is to do, and writes all frames that are new."""
-        work = TYPES["NobWork"]()
-        new = {CODES["NOB_ACK_ALONE"], CODES["NOB_NEW_ITEMS"], CODES["NOB_CLOSE_OWED"]}
-        while True:
-            self.library.nob_work(self.handle, work)
-            if work.act:
-                self.ask("act", OWNER)
-            elif work.settle or work.clean:
-                self.ask("settle" if work.settle else "clean")
-            elif work.claim:
-                self.ask("finish", self.ask("claim").number, CODES["NOB_NO_METHOD"], b"", 0)
-            else:
-                break
-        if self.library.nob_due(self.handle, OWNER) in new:
+    def send_news(self):
+        if self.library.nob_due(self.handle, OWNER) not in (CODES["NOB_NO_FRAMES"], CODES["NOB_GIVEN_BEFORE"]):
             self.ask("transmit", OWNER)
-            self.stamp += 1
-            self.write(FRAMES, self.answer())
-
-    def wait(self):
-        """Takes one record, and has its frames arrive."""
-        length, kind, stamp = struct.unpack(">IB3xQ", self.read(16))
-        self.ask("push", OWNER, body := self.read(length), len(body))
-        self.stamp = max(self.stamp, stamp)
-        while self.library.nob_next(self.handle, TYPES["NobTold"]()) != CODES["NOB_NO_FRAME"]:
-            self.stamp += 1
-        if kind == PING:
-            self.write(PONG)
+            frames = self.answer()
+            self.socket.sendall(HEAD.pack(len(frames), FRAMES, 0) + frames)
 
     def call(self, index, method, value):
+        """What an object answers. Until then each record is taken, and all is done that there is to do."""
         number = self.ask("call", OWNER, index, method, value, len(value)).number
         while not self.library.nob_reply_ready(self.handle, number):
-            self.work()
-            if not self.library.nob_reply_ready(self.handle, number):
-                self.wait()
-        status = self.ask("take_reply", number).number
-        self.library.nob_value(self.handle)
-        if status != CODES["NOB_ANSWER"]:
-            raise ValueError(f"the call has status {status}, with {self.answer().hex()}")
+            self.send_news()
+            length, kind, _ = HEAD.unpack(self.socket.recv(HEAD.size, socket.MSG_WAITALL))
+            self.ask("push", OWNER, body := self.socket.recv(length, socket.MSG_WAITALL), len(body))
+            while self.ask("next") or self.ask("act", OWNER) or self.ask("settle") or self.ask("clean"):
+                pass
+            while job := self.ask("claim"):  # of the agent, which has no methods here
+                self.ask("finish", job.number, CODES["NOB_NO_METHOD"], b"", 0)
+            if kind == PING:
+                self.socket.sendall(HEAD.pack(0, PONG, 0))
+        if self.ask("take_reply", number).number != CODES["NOB_ANSWER"] or self.library.nob_value(self.handle):
+            raise ValueError("the call was answered by a fault, or not at all")
         return self.answer()
 
 
 def main(path, number, port, times="1"):
-    caller = Caller(load(path), int(number), int(port))
-    name = b"counter"
-    _, owner, counter = struct.unpack(">BHQ", caller.call(0, 1, struct.pack(">BI", 2, len(name)) + name))
+    caller = Caller(declared(ctypes.CDLL(path)), int(number), int(port))
+    _, owner, counter = struct.unpack(">BHQ", caller.call(0, 1, struct.pack(">BI7s", 2, 7, b"counter")))
     for _ in range(int(times)):
         print(struct.unpack(">Bq", caller.call(counter, 0, struct.pack(">Bq", 1, 20)))[1], flush=True)
     caller.ask("release", owner, counter)
-    caller.work()
+    caller.ask("clean")
+    caller.send_news()
     caller.ask("close", OWNER)
-    caller.work()
-    caller.write(BYE)
+    caller.send_news()
+    caller.socket.sendall(HEAD.pack(0, BYE, 0))
     caller.library.nob_end(caller.handle)
 
 
-if __name__ == "__main__":
-    main(*sys.argv[1:])
+main(*sys.argv[1:])

@@ -1,79 +1,60 @@
-/* Two spaces in one program. The second asks the first for its counter, calls it three times and gives it back; then the first
- * can withdraw it. Here the program carries the frames from one to the other; between processes a connection does (caller.py). */
+/* Two spaces in one program: the second calls a counter of the first and gives it back, and then it can be withdrawn. */
 #include "masttomato.h"
 #include <stdio.h>
 #include <stdlib.h>
 
 static NobHandle owner = NOB_EMPTY, caller = NOB_EMPTY; /* space 1 and space 2 */
-static uint64_t total;
+static NobTold told;                                    /* what came of what was asked last */
+static uint8_t room[64 * (32 + 16384)];                 /* for the frames of any Transmit, or any value */
 
-static NobTold must(const char *name, uint32_t status, const NobTold *told) {
-  if (status == NOB_OK) return *told;
-  fprintf(stderr, "%s: status %u\n", name, (unsigned)status);
-  exit(1);
-}
-#define ASK(name, ...) must(#name, nob_##name(__VA_ARGS__, &told), &told)
-
-static size_t write_number(uint64_t number, uint8_t *pickle) { /* 01, then 8 bytes, the highest first */
-  for (int i = 8; i > 0; i--, number >>= 8) pickle[i] = (uint8_t)number;
-  pickle[0] = 1;
-  return 9;
-}
-
-static uint64_t last_number(NobHandle *space) { /* the last 8 bytes of the value that a job or a reply has just brought */
-  uint8_t pickle[11];
-  uint64_t number = 0;
-  size_t length = nob_value(space) == NOB_OK ? nob_answer(space, pickle, sizeof pickle) : 0;
-  for (size_t i = length - 8; i < length && length <= sizeof pickle; i++) number = number << 8 | pickle[i];
-  return number;
+#define MUST(asked) must(#asked, asked)
+static void must(const char *asked, uint32_t status) {
+  if (status != NOB_OK) fprintf(stderr, "%s: status %u\n", asked, (unsigned)status);
+  if (status != NOB_OK) exit(1);
 }
 
 static bool turn(NobHandle *space, NobHandle *other) { /* what there is to do, each once: whether there was anything */
-  static uint8_t frames[64 * (32 + 16384)];
-  static const uint8_t counter[11] = {4, 0, 1, 0, 0, 0, 0, 0, 0, 0, 1}; /* the reference 1.1 */
-  uint8_t pickle[9];
-  NobTold told;
+  static const uint8_t counter[11] = {4, 0, 1, 0, 0, 0, 0, 0, 0, 0, 1}; /* a reference to object 1 of space 1 */
+  static uint8_t total[9] = {1, 0, 0, 0, 0, 0, 0, 0, 0};                /* a whole number, its highest byte first */
   NobWork work;
   nob_work(space, &work);
-  if (work.act) ASK(act, space, nob_id(other));
-  if (work.settle) ASK(settle, space);
-  if (work.clean) ASK(clean, space);
-  if (work.claim && ASK(claim, space).index == 0) /* the agent is called: whoever asks gets the counter */
-    ASK(finish, space, told.number, NOB_ANSWER, counter, sizeof counter);
-  else if (work.claim) /* the counter is */
-    ASK(finish, space, told.number, NOB_ANSWER, pickle, write_number(total += last_number(space), pickle));
+  if (work.act) MUST(nob_act(space, nob_id(other), &told));
+  if (work.settle) MUST(nob_settle(space, &told));
+  if (work.clean) MUST(nob_clean(space, &told));
+  if (work.claim) {
+    MUST(nob_claim(space, &told));
+    const bool is_agent = told.index == 0; /* which gives the counter to whoever asks; else the counter is called */
+    total[8] += is_agent ? 0 : 1;
+    MUST(nob_finish(space, told.number, NOB_ANSWER, is_agent ? counter : total, is_agent ? 11 : 9, &told));
+  }
   if (!work.send) return work.act || work.settle || work.clean || work.claim;
-  ASK(transmit, space, nob_id(other));
-  ASK(push, other, nob_id(space), frames, nob_answer(space, frames, sizeof frames));
-  while (nob_next(other, &told) == NOB_OK) continue;
+  MUST(nob_transmit(space, nob_id(other), &told)); /* between processes a connection carries its frames (caller.py) */
+  MUST(nob_push(other, nob_id(space), room, nob_answer(space, room, sizeof room), &told));
+  for (uint64_t frames = told.number; frames > 0; frames--) MUST(nob_next(other, &told));
   return true;
 }
 
-static uint64_t call(uint64_t index, uint16_t method, const uint8_t *pickle, size_t length) { /* and what it answers */
-  NobTold told;
-  ASK(call, &caller, 1, index, method, pickle, length);
+static unsigned call(uint64_t index) { /* the last byte of the answer: a total, or the index of a reference */
+  MUST(nob_call(&caller, 1, index, 0, &(uint8_t){0}, 1, &told)); /* with unit, whose pickle is a byte 0 */
   while (turn(&owner, &caller) | turn(&caller, &owner)) continue;
-  ASK(take_reply, &caller, nob_next_reply(&caller)); /* the one call that is answered */
-  return last_number(&caller);
+  MUST(nob_take_reply(&caller, nob_next_reply(&caller), &told));
+  must("no answer", told.kind == NOB_REPLIED && told.number == NOB_ANSWER ? NOB_OK : NOB_NO_VALUE);
+  MUST(nob_value(&caller));
+  return room[nob_answer(&caller, room, sizeof room) - 1];
 }
 
 int main(void) {
-  uint8_t pickle[9] = {0}; /* unit, at first */
-  NobTold told;
   if (nob_version() != NOB_VERSION) return 1;
-  if (nob_new(&owner, 1, 2, 8, 16) != NOB_OK || nob_new(&caller, 2, 2, 8, 16) != NOB_OK) return 1;
-  if (nob_new(&owner, 1, 2, 8, 16) != NOB_KEEPS_ONE) return 1; /* and it stays */
-  ASK(export, &owner);
-  uint64_t counter = call(0, 1, pickle, 1); /* the caller holds 1.1 from here on */
-  ASK(release, &owner, 1, counter);
-  for (int i = 0; i < 3; i++) total = call(counter, 0, pickle, write_number(14, pickle));
-  printf("the counter says %u\n", (unsigned)total);
+  MUST(nob_new(&owner, 1, 2, 8, 16));
+  MUST(nob_new(&caller, 2, 2, 8, 16));
+  MUST(nob_export(&owner, &told));
+  unsigned counter = call(0); /* from here on the caller holds it, */
+  MUST(nob_release(&owner, 1, counter, &told)); /* and nobody else does */
+  for (int i = 0; i < 3; i++) printf("the counter says %u\n", call(counter));
   printf("while the caller holds it: status %u\n", (unsigned)nob_withdraw(&owner, counter, &told));
-  ASK(release, &caller, 1, counter);
+  MUST(nob_release(&caller, 1, counter, &told));
   while (turn(&owner, &caller) | turn(&caller, &owner)) continue;
   printf("once it is given back: status %u\n", (unsigned)nob_withdraw(&owner, counter, &told));
   nob_end(&owner);
   nob_end(&caller);
-  printf("once it has ended: status %u\n", (unsigned)nob_withdraw(&owner, counter, &told));
-  return nob_keeps(&owner) || nob_keeps(&caller);
 }

@@ -147,6 +147,7 @@ fn one_that_passes_fresh_references_without_end() {
         scene.read();
     }
     assert!(scene.owner.counts().wants > 0);
+    assert_eq!(scene.owner.report(scene.now).of_space.surrogates, 65_536);
     assert_eq!((scene.served, scene.session(HOSTILE)), (0, Session::Open));
     scene.assert_serves();
 }

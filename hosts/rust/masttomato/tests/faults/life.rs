@@ -1,15 +1,16 @@
 //! What a process does until it is killed, or told to end: it makes, calls, passes, holds and drops what
 //! others have and what it has, and sees that what it is answered is right.
 
+use crate::sealed::{self, WORLD};
 use crate::things::*;
 use crate::{Numbers, SPACES};
 use masttomato::engine::{Files, World};
 use masttomato::space::{Bounds, SegmentSize};
-use masttomato::{Builder, CallError, Fault, Node, Peers, Remote, Session};
+use masttomato::{Builder, CallError, Fault, Node, Peers, Remote, Session, Why};
 use std::path::{Path, PathBuf};
 use std::sync::Arc;
 use std::sync::atomic::{AtomicBool, AtomicU64, Ordering::SeqCst};
-use std::time::Duration;
+use std::time::{Duration, Instant};
 use std::{fs, io, thread};
 
 /// A session without progress closes after this.
@@ -32,24 +33,25 @@ pub fn keeps_bounds(number: u16) -> bool {
 }
 
 // A node of the world, before it says what it records.
-fn builder(number: u16, peers: Peers) -> Builder {
-    let builder = Node::builder(id(number), peers).listen("127.0.0.1:0").spaces(id(SPACES));
-    builder.give_up_after(GIVE_UP).workers(2)
+fn builder(number: u16, peers: Peers, folder: &Path) -> Builder {
+    let builder = Node::builder(id(number), peers).world(WORLD).spaces(id(SPACES));
+    let builder = builder.listen("127.0.0.1:0").give_up_after(GIVE_UP).workers(2);
+    sealed::shown(builder, number, folder)
 }
 
 /// The first node of the world, which nothing befalls but weather.
 pub fn first_node(folder: &Path) -> Node {
     let files = Files::new(folder, id(1), FILE);
-    builder(1, Peers::none()).record(files).start().expect("a node")
+    builder(1, Peers::none(), folder).record(files).start().expect("a node")
 }
 
 // The node of a life: it records a trace, or a chain.
 fn node(number: u16, peers: Peers, folder: &Path, numbers: &mut Numbers) -> Node {
-    let (here, mut builder) = (id(number), builder(number, peers));
+    let (here, mut builder) = (id(number), builder(number, peers, folder));
     let mut files = Files::new(folder, here, FILE);
     if keeps_bounds(number) {
         let path = bounds_file(folder, number);
-        let bounds = Bounds::open(path, World::default(), here, id(SPACES)).expect("its file");
+        let bounds = Bounds::open(path, World::named(WORLD), here, id(SPACES)).expect("its file");
         files = Files::of_life(folder, here, bounds.life(), FILE);
         builder = builder.bounds(bounds);
     }
@@ -101,6 +103,8 @@ fn is_excused(error: &CallError) -> bool {
     match error {
         CallError::Ended(_) | CallError::Down(_) | CallError::Lost | CallError::TimedOut => false,
         CallError::Fault(Fault::Lost) => false,
+        // Where connections are sealed and one came to the wrong node, or bytes of none were in it.
+        CallError::Refused(_, Why::Certificate(_)) => false,
         other => panic!("no fault of the way explains this: {other}"),
     }
 }
@@ -129,6 +133,16 @@ pub fn live(number: u16, seed: u64, folder: &Path) {
     while !is_over.load(SeqCst) && !matches!(node.session(id(1)), Session::Closed(_)) {
         thread::sleep(Duration::from_millis(numbers.below(5)));
         deed(&node, &shelf, &mut own, &mut others, &alive, &mut numbers);
+    }
+    each_call_ends(&node);
+}
+
+// Each call is answered, or ends with its session: none stays open, whoever is stopped or gone.
+fn each_call_ends(node: &Node) {
+    let end = Instant::now() + 15 * GIVE_UP;
+    while node.counts().calls_open > 0 {
+        assert!(Instant::now() < end, "a call stays open: {:?}", node.report());
+        thread::sleep(Duration::from_millis(5));
     }
 }
 

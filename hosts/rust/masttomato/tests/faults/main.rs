@@ -14,6 +14,8 @@
 mod common;
 mod life;
 mod manner;
+mod plan;
+mod sealed;
 mod strangers;
 #[path = "../nodes/things.rs"]
 #[allow(dead_code)]
@@ -26,6 +28,8 @@ use life::{address_file, bounds_file, keeps_bounds};
 use masttomato::engine::{Files, World};
 use masttomato::space::Bounds;
 use masttomato::{Remote, Session};
+use plan::{Fate, Plan};
+use sealed::WORLD;
 use std::fs::{self, File};
 use std::path::{Path, PathBuf};
 use std::process::{Child, Command, Stdio};
@@ -38,6 +42,9 @@ use weather::Weather;
 /// So many spaces has a world: the first one, and those whose processes come and go.
 pub const SPACES: u16 = 16;
 const AT_ONCE: usize = 3;
+/// So long processes begin in a world.
+const LEAST: Duration = Duration::from_secs(3);
+const LONGEST: Duration = Duration::from_secs(20);
 const LIFE: &str = "MASTTOMATO_LIFE";
 const JUDGE: &str = "MASTTOMATO_JUDGE";
 
@@ -97,23 +104,25 @@ fn a_judge() {
     }
 }
 
-/// A process that lives at a place, until a moment.
+/// A process that lives at a place, and what is to befall it.
 struct Life {
     process: Child,
     number: u16,
-    until: Instant,
+    fate: Fate,
+    began: Instant,
     is_paused: bool,
 }
 
 impl Life {
-    fn begin(number: u16, seed: u64, until: Instant, folder: &Path) -> Life {
-        let told = format!("{number} {seed} {}", folder.display());
+    fn begin(number: u16, fate: Fate, folder: &Path) -> Life {
+        let told = format!("{number} {} {}", fate.seed, folder.display());
         // Nobody finds it where the life before was.
         let _was_there = fs::remove_file(address_file(folder, number));
-        let said = File::create(folder.join(format!("said-{number}-{seed}"))).expect("a file");
+        let said = File::create(folder.join(format!("said-{number}-{}", fate.seed)));
         let mut command = again("a_life", LIFE, &told);
-        let process = command.stdin(Stdio::piped()).stderr(said).spawn().expect("a process");
-        Life { process, number, until, is_paused: false }
+        command.stdin(Stdio::piped()).stderr(said.expect("a file"));
+        let process = command.spawn().expect("a process");
+        Life { process, number, fate, began: Instant::now(), is_paused: false }
     }
 
     // Stops the process where it is, or lets it go on.
@@ -132,13 +141,19 @@ impl Life {
     fn end(mut self) {
         self.pause(false);
         drop(self.process.stdin.take());
-        assert!(self.process.wait().expect("it has ended").success(), "life {}", self.number);
+        let mut ended = None;
+        eventually("a process ends that is told to", || {
+            ended = self.process.try_wait().expect("a process");
+            ended.is_some()
+        });
+        assert!(ended.is_some_and(|status| status.success()), "life {}: {ended:?}", self.number);
     }
 }
 
 /// What a world came to.
 #[derive(Debug, Default)]
 struct Sums {
+    is_sealed: bool,
     lives: u32,
     reborn: u32,
     kills: u32,
@@ -151,14 +166,16 @@ struct Sums {
 
 // A world of so long at most.
 fn world(seed: u64, time: Duration, folder: &Path) -> Sums {
-    let mut numbers = Numbers::new(seed);
-    let weather = Weather::new(SPACES, seed + 1);
+    let plan = Plan::new(seed);
+    // Every other world has certificates, where they can be made.
+    let is_sealed = seed.is_multiple_of(2) && sealed::make(folder);
+    let weather = Weather::new(SPACES, plan, is_sealed);
     let places: String =
         (1..=SPACES).map(|place| format!("{place} {}\n", weather.address(place))).collect();
     fs::write(folder.join("world.peers"), places).expect("a file");
     for number in (2..=SPACES).filter(|number| keeps_bounds(*number)) {
         let path = bounds_file(folder, number);
-        Bounds::create(path, World::default(), id(number), id(SPACES)).expect("a file");
+        Bounds::create(path, World::named(WORLD), id(number), id(SPACES)).expect("a file");
     }
     let node = life::first_node(folder);
     weather.settle(1, node.address());
@@ -166,7 +183,7 @@ fn world(seed: u64, time: Duration, folder: &Path) -> Sums {
     let alive = board.alive.clone();
     let shelf = node.export::<dyn Shelf>(Box::new(board)).expect("room");
     node.bind("shelf", &shelf).expect("a name");
-    let mut sums = populate(&weather, time, &mut numbers, folder);
+    let mut sums = populate(&weather, time, plan, folder);
     [sums.faults, sums.strangers, sums.astray] = weather.sums();
     // What the lives held is given up, and what they left on the shelf is the first one's own again.
     node.unbind("shelf");
@@ -180,41 +197,41 @@ fn world(seed: u64, time: Duration, folder: &Path) -> Sums {
     eventually("what the lives held is given up", || alive.load(SeqCst) == 0);
     eventually("no call is open", || node.counts().calls_open == 0);
     eventually("no object is live", || node.report().is_ok_and(|report| report.live == 0));
-    sums.calls = node.counts().jobs_finished;
+    (sums.is_sealed, sums.calls) = (is_sealed, node.counts().jobs_finished);
     node.shutdown(SOON);
     assert_no_panic(folder);
     sums
 }
 
 // For so long processes begin and come to their ends; then all that live are told to.
-fn populate(weather: &Weather, time: Duration, numbers: &mut Numbers, folder: &Path) -> Sums {
+fn populate(weather: &Weather, time: Duration, plan: Plan, folder: &Path) -> Sums {
     let (end, mut sums, mut lives) = (Instant::now() + time, Sums::default(), Vec::new());
     let mut used = Vec::new();
     while Instant::now() < end {
+        let fate = plan.fate(sums.lives.into());
         if lives.len() < AT_ONCE
-            && let Some(number) = next_number(&used, &lives, numbers)
+            && let Some(number) = next_number(&used, &lives, fate.reborn)
         {
             sums.lives += 1;
             sums.reborn += u32::from(used.contains(&number));
             used.push(number);
-            let until = Instant::now() + Duration::from_millis(200 + numbers.below(6_000));
-            lives.push(Life::begin(number, numbers.below(1 << 40), until, folder));
+            lives.push(Life::begin(number, fate, folder));
         }
         thread::sleep(Duration::from_millis(20));
-        follow(weather, &mut lives, numbers, &mut sums, folder);
+        follow(weather, &mut lives, &mut sums, folder);
     }
     lives.into_iter().for_each(Life::end);
     sums
 }
 
-// Whose process is the next to begin: one that comes back, or one whose number wasn't used.
-fn next_number(used: &[u16], lives: &[Life], numbers: &mut Numbers) -> Option<u16> {
+// Whose process is the next to begin: one that comes back, which of them from any number on, or one whose number wasn't used.
+fn next_number(used: &[u16], lives: &[Life], reborn: Option<u64>) -> Option<u16> {
     let is_free = |number: &u16| lives.iter().all(|life| life.number != *number);
     let fresh = (2..=SPACES).find(|number| !used.contains(number));
-    let reborn: Vec<u16> =
+    let back: Vec<u16> =
         (2..=SPACES).filter(|n| keeps_bounds(*n) && used.contains(n)).filter(is_free).collect();
-    let reborn = reborn.get(numbers.below(reborn.len().max(1) as u64) as usize).copied();
-    if numbers.below(3) == 0 { fresh.or(reborn) } else { reborn.or(fresh) }
+    let one = |which: u64| back.get(which as usize % back.len().max(1)).copied();
+    reborn.map_or_else(|| fresh.or_else(|| one(0)), |which| one(which).or(fresh))
 }
 
 // Also of a process that was killed afterwards, or went on, it is known what it said.
@@ -229,13 +246,7 @@ fn assert_no_panic(folder: &Path) {
 }
 
 // Lives come to their ends: by themselves, killed, or told to.
-fn follow(
-    weather: &Weather,
-    lives: &mut Vec<Life>,
-    numbers: &mut Numbers,
-    sums: &mut Sums,
-    folder: &Path,
-) {
+fn follow(weather: &Weather, lives: &mut Vec<Life>, sums: &mut Sums, folder: &Path) {
     for mut life in std::mem::take(lives) {
         if let Some(ended) = life.process.try_wait().expect("a process") {
             assert!(ended.success(), "life {}: {ended}", life.number);
@@ -244,18 +255,19 @@ fn follow(
         if let Ok(address) = fs::read_to_string(address_file(folder, life.number)) {
             weather.settle(life.number, address.parse().ok());
         }
-        if Instant::now() < life.until {
-            if life.is_paused || numbers.below(150) == 0 {
-                sums.pauses += u32::from(!life.is_paused);
-                let is_paused = !life.is_paused || numbers.below(25) != 0;
+        let age = life.began.elapsed();
+        if age < life.fate.lasts {
+            let is_paused = life.fate.is_paused(age);
+            sums.pauses += u32::from(is_paused && !life.is_paused);
+            if is_paused != life.is_paused {
                 life.pause(is_paused);
             }
             lives.push(life);
-        } else if numbers.below(4) == 0 {
-            life.end();
-        } else {
+        } else if life.fate.is_killed {
             sums.kills += 1;
             life.kill();
+        } else {
+            life.end();
         }
     }
 }
@@ -287,9 +299,10 @@ impl Folder {
 
 impl Drop for Folder {
     fn drop(&mut self) {
-        // Where something is wrong, the traces stay.
-        if !thread::panicking() {
-            let _removed = fs::remove_dir_all(&self.0);
+        // Where something is wrong, the traces stay, and what each process said.
+        match thread::panicking() {
+            true => eprintln!("it stays: {}", self.0.display()),
+            false => drop(fs::remove_dir_all(&self.0)),
         }
     }
 }
@@ -300,12 +313,14 @@ fn processes_and_connections_fail_and_nodes_stand() {
     let first = number_of("MASTTOMATO_SEED", 1);
     let (since, mut memories) = (Instant::now(), Vec::new());
     for seed in first.. {
+        // At least one that may be sealed, and one that isn't.
         let left = time.saturating_sub(since.elapsed());
-        if left.is_zero() {
+        if left.is_zero() && memories.len() > 1 {
             break;
         }
         let folder = Folder::new(seed);
-        let sums = world(seed, left.min(Duration::from_secs(20)), &folder.0);
+        let lasts = left.clamp(time.min(LEAST), LONGEST).min(time / 2);
+        let sums = world(seed, lasts, &folder.0);
         let judged = again("a_judge", JUDGE, &folder.0.display().to_string()).status();
         assert!(judged.expect("a process").success(), "seed {seed}: {}", folder.0.display());
         memories.push(memory());

@@ -52,13 +52,14 @@ pub struct Way {
     left: Option<usize>,
     /// So many bytes of no record are to come behind the next record.
     garbage: Option<usize>,
-    records: Records,
+    /// Where records end; of what is sealed that can't be seen.
+    records: Option<Records>,
     is_silent: bool,
 }
 
 impl Way {
     /// A way to this end, on which bytes go as they come.
-    pub fn new(to: TcpStream, seed: u64) -> Way {
+    pub fn new(to: TcpStream, seed: u64, is_sealed: bool) -> Way {
         Way {
             to,
             numbers: Numbers::new(seed),
@@ -66,7 +67,7 @@ impl Way {
             waiting: VecDeque::new(),
             left: None,
             garbage: None,
-            records: Records::new(),
+            records: (!is_sealed).then(Records::new),
             is_silent: false,
         }
     }
@@ -81,7 +82,7 @@ impl Way {
         self.left = Some(count);
     }
 
-    /// So many bytes that are none of a record come behind the next record.
+    /// So many bytes that are none of a record come behind the next record, or anywhere.
     pub fn spoils(&mut self, count: usize) {
         self.garbage = Some(count);
     }
@@ -136,7 +137,7 @@ impl Way {
 
     // What comes, with garbage behind its first record that ends, where that is wanted.
     fn spoilt(&mut self, came: &[u8]) -> Vec<u8> {
-        let ends = self.records.end_in(came);
+        let ends = self.records.as_mut().map_or(Some(came.len()), |records| records.end_in(came));
         match (ends, self.garbage) {
             (Some(end), Some(count)) => {
                 self.garbage = None;

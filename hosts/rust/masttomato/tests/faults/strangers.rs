@@ -1,5 +1,6 @@
 //! Who comes to a node without being a peer: that says nothing, or what no node says, or says hello and then that.
 
+use crate::sealed::WORLD;
 use crate::{Numbers, SPACES};
 use masttomato::SpaceId;
 use masttomato::engine::{Hello, Life, WINDOW, World};
@@ -38,7 +39,7 @@ fn hello(space: u16, numbers: &mut Numbers) -> Vec<u8> {
     let id = |number| SpaceId::new(number).expect("a space");
     let life = Life { number: numbers.below(5), process: numbers.below(1 << 60) };
     let (space, spaces) = (id(space), id(SPACES));
-    Hello { space, spaces, world: World::default(), life, window: WINDOW, refused: None }
+    Hello { space, spaces, world: World::named(WORLD), life, window: WINDOW, refused: None }
         .to_bytes()
         .to_vec()
 }

@@ -2,6 +2,7 @@
 
 use crate::Numbers;
 use crate::manner::{Manner, Way};
+use crate::plan::{Passage, Plan};
 use crate::strangers;
 use std::io::{ErrorKind, Read};
 use std::net::{Shutdown, SocketAddr, TcpListener, TcpStream};
@@ -30,7 +31,8 @@ pub enum Fault {
 }
 
 impl Fault {
-    fn any(numbers: &mut Numbers) -> Fault {
+    /// Any of them.
+    pub fn any(numbers: &mut Numbers) -> Fault {
         match numbers.below(32) {
             0..4 => Fault::Cut,
             4..9 => Fault::CutBehind(numbers.below(600) as usize),
@@ -72,28 +74,31 @@ pub struct Weather {
 }
 
 impl Weather {
-    /// So many places, from 1 on, and bad weather from a seed.
-    pub fn new(places: u16, seed: u64) -> Weather {
+    /// So many places, from 1 on, and the weather of a plan, over connections that may be sealed.
+    pub fn new(places: u16, plan: Plan, is_sealed: bool) -> Weather {
         let mut weather = Weather { shared: Shared::default(), threads: Vec::new() };
         for place in 0..places {
             let listener = TcpListener::bind("127.0.0.1:0").expect("a port");
             let address = listener.local_addr().expect("its address");
             weather.shared.places.lock().unwrap().push((address, Target::default()));
-            let numbers = Numbers::new(seed + 100 + u64::from(place));
-            weather.begin(move |shared| accept(&listener, place, &shared, numbers));
+            weather.begin(move |shared| accept(&listener, place, &shared, plan, is_sealed));
         }
-        let mut numbers = Numbers::new(seed);
         weather.begin(move |shared| {
-            while !shared.is_over.load(SeqCst) {
-                thread::sleep(Duration::from_millis(5 + numbers.below(250)));
-                befall(&shared, &mut numbers);
+            for blow in (0..).map(|place| plan.blow(place)) {
+                thread::sleep(blow.after);
+                if shared.is_over.load(SeqCst) {
+                    return;
+                }
+                befall(&shared, blow.which, blow.fault);
             }
         });
-        let mut numbers = Numbers::new(seed + 50);
         weather.begin(move |shared| {
-            while !shared.is_over.load(SeqCst) {
-                thread::sleep(Duration::from_millis(20 + numbers.below(300)));
-                if let Some(address) = shared.any_target(&mut numbers) {
+            for (after, which, mut numbers) in (0..).map(|place| plan.stranger(place)) {
+                thread::sleep(after);
+                if shared.is_over.load(SeqCst) {
+                    return;
+                }
+                if let Some(address) = shared.any_target(which) {
                     strangers::visit(address, &mut numbers);
                     shared.strangers.fetch_add(1, SeqCst);
                 }
@@ -130,11 +135,11 @@ impl Shared {
         *self.places.lock().unwrap()[usize::from(place)].1.lock().unwrap()
     }
 
-    // Where somebody lives.
-    fn any_target(&self, numbers: &mut Numbers) -> Option<SocketAddr> {
+    // Where somebody lives: which of these places, from any number on.
+    fn any_target(&self, which: u64) -> Option<SocketAddr> {
         let count = self.places.lock().unwrap().len() as u16;
         let settled: Vec<SocketAddr> = (0..count).filter_map(|place| self.target(place)).collect();
-        settled.get(numbers.below(settled.len().max(1) as u64) as usize).copied()
+        settled.get(which as usize % settled.len().max(1)).copied()
     }
 }
 
@@ -154,37 +159,36 @@ impl Drop for Weather {
     }
 }
 
-fn befall(shared: &Shared, numbers: &mut Numbers) {
+fn befall(shared: &Shared, which: u64, fault: Fault) {
     let mut carried = shared.carried.lock().unwrap();
     carried.retain(|carried| !carried.is_over.load(SeqCst));
-    if carried.is_empty() {
-        return;
+    if !carried.is_empty() {
+        let place = which as usize % carried.len();
+        *carried[place].fault.lock().unwrap() = Some(fault);
+        shared.faults.fetch_add(1, SeqCst);
     }
-    let place = numbers.below(carried.len() as u64) as usize;
-    *carried[place].fault.lock().unwrap() = Some(Fault::any(numbers));
-    shared.faults.fetch_add(1, SeqCst);
 }
 
-fn accept(listener: &TcpListener, place: u16, shared: &Shared, mut numbers: Numbers) {
-    for near in listener.incoming().flatten() {
+fn accept(listener: &TcpListener, place: u16, shared: &Shared, plan: Plan, is_sealed: bool) {
+    for (near, count) in listener.incoming().flatten().zip(0..) {
         if shared.is_over.load(SeqCst) {
             return;
         }
+        let Passage { astray, ways } = plan.passage(place, count);
         // Some go astray, and come to whoever lives elsewhere.
-        let is_astray = numbers.below(15) == 0;
-        let target = if is_astray { shared.any_target(&mut numbers) } else { shared.target(place) };
-        shared.astray.fetch_add(is_astray.into(), SeqCst);
+        let target = astray.map_or_else(|| shared.target(place), |which| shared.any_target(which));
+        shared.astray.fetch_add(astray.is_some().into(), SeqCst);
         let Some(far) = target.and_then(|address| TcpStream::connect(address).ok()) else {
             continue;
         };
         let both = Arc::new(Carried::default());
         let (Ok(back), Ok(forth)) = (near.try_clone(), far.try_clone()) else { continue };
         shared.carried.lock().unwrap().push(both.clone());
-        for (from, to) in [(near, forth), (far, back)] {
-            let (both, seed) = (both.clone(), numbers.below(1 << 40));
+        for ((from, to), seed) in [(near, forth), (far, back)].into_iter().zip(ways) {
+            let both = both.clone();
             to.set_nodelay(true).expect("a socket");
             thread::spawn(move || {
-                carry(from, Way::new(to, seed), &both);
+                carry(from, Way::new(to, seed, is_sealed), &both);
                 both.is_over.store(true, SeqCst);
             });
         }
