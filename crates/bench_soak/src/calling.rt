@@ -1,0 +1,201 @@
+//! The calls that a player makes by chance.
+
+use crate::desk::Doing;
+use crate::figures::add;
+use crate::kind::{Kind, Reference};
+use crate::player::Soaker;
+use crate::pocket::{Held, Pocket, give_back};
+use crate::steps::made;
+use crate::thing::Thing;
+use nob_ids::WireRep;
+use nob_node::{Hold, Node, NodeError, Returned};
+use nob_pickle::Value;
+use std::sync::Wait;
+
+// Calls an object of another space by chance.
+pub(crate) fn call_any<R: Wait>(
+    soaker: &mut Soaker,
+    rt: &R,
+    node: &mut Node<Thing>,
+    pocket: &mut Pocket,
+) {
+    let Some(target) = target_by(soaker, pocket) else {
+        return;
+    };
+    let method = method_of(soaker, target.kind);
+    let fresh = if soaker.chance.is_so(25) {
+        made(soaker, rt, node)
+    } else {
+        None
+    };
+    let value = match &fresh {
+        Some(held) => value_of(soaker, held.reference()),
+        None => value_by(soaker, target, pocket),
+    };
+    soaker.say(rt, Doing::Calls(target.rep.owner.get()));
+    let called = call_held(rt, node, pocket, target.rep, method, value);
+    take_returned(soaker, rt, node, pocket, called);
+    if let Some(held) = fresh {
+        keep_or_give_back(soaker, rt, node, pocket, held);
+    }
+}
+
+// The reference to call by: it is held.
+fn target_by(soaker: &mut Soaker, pocket: &Pocket) -> Option<Reference> {
+    let held = pocket.any_of_others(&mut soaker.chance, soaker.space)?;
+    Some(held.reference())
+}
+
+// A method of an object of a kind.
+fn method_of(soaker: &mut Soaker, kind: Kind) -> u16 {
+    let drawn = soaker.chance.below(20);
+    match kind {
+        Kind::Table => match drawn {
+            0..10 => 0,
+            10..15 => 1,
+            15..18 => 2,
+            18 => 3,
+            _ => 4,
+        },
+        _ => { if drawn == 0 { 1 } else { 0 } }
+    }
+}
+
+// What passes a reference: unit, where there is no memory for it.
+fn value_of(soaker: &mut Soaker, reference: Reference) -> Value {
+    reference.value(soaker.alloc).unwrap_or(Value::Unit)
+}
+
+// An argument for an object: often a reference that is held, be it of this space, of the object's or of
+// a third one; for a caller one that it calls, if there is one.
+fn value_by(soaker: &mut Soaker, target: Reference, pocket: &Pocket) -> Value {
+    let found = if target.kind == Kind::Caller {
+        pocket.any_above(&mut soaker.chance, target.rep.owner)
+    } else {
+        None
+    };
+    let passed = match found {
+        Some(held) => Some(held.reference()),
+        None if soaker.chance.is_so(60) => match pocket.any(&mut soaker.chance) {
+            Some(held) => Some(held.reference()),
+            None => None,
+        },
+        None => None,
+    };
+    match passed {
+        Some(reference) => value_of(soaker, reference),
+        None if soaker.chance.is_so(50) => Value::Int(i64::from(
+            soaker.chance.small_between(0, 255),
+        )),
+        None => Value::Unit,
+    }
+}
+
+// Calls a method of the object of a reference that is held.
+fn call_held<R: Wait>(
+    rt: &R,
+    node: &mut Node<Thing>,
+    pocket: &Pocket,
+    rep: WireRep,
+    method: u16,
+    value: Value,
+) -> Result<Returned, NodeError> {
+    let Some(held) = pocket.of(rep) else {
+        return Ok(Returned::Ended);
+    };
+    match node.call(rt, &held.hold, method, value) {
+        Ok(returned) => Ok(returned),
+        Err((error, _value)) => Err(error),
+    }
+}
+
+// Counts what a call came to, and keeps the reference that it returned.
+fn take_returned<R: Wait>(
+    soaker: &mut Soaker,
+    rt: &R,
+    node: &mut Node<Thing>,
+    pocket: &mut Pocket,
+    called: Result<Returned, NodeError>,
+) {
+    let returned = match called {
+        Ok(returned) => returned,
+        Err(error) => return soaker.figures.count_error(error),
+    };
+    soaker.figures.count_returned(&returned);
+    match returned {
+        Returned::Replied {
+            status: _,
+            value,
+            holds,
+        } => keep_each(soaker, rt, node, pocket, Reference::of_value(&value), holds),
+        Returned::Ended => {}
+    }
+}
+
+// Keeps holds on what a value passed; where that isn't known, they are given back.
+fn keep_each<R: Wait>(
+    soaker: &mut Soaker,
+    rt: &R,
+    node: &mut Node<Thing>,
+    pocket: &mut Pocket,
+    passed: Option<Reference>,
+    mut holds: Vec<Hold>,
+) {
+    while let Some(hold) = holds.pop() {
+        match passed {
+            Some(reference) => {
+                add(&mut soaker.figures.got);
+                let kind = reference.kind;
+                pocket.put(rt, node, Held { hold, kind });
+            }
+            None => give_back(rt, node, hold),
+        }
+    }
+    holds.destroy_empty();
+}
+
+// Keeps a hold, or gives it back.
+fn keep_or_give_back<R: Wait>(
+    soaker: &mut Soaker,
+    rt: &R,
+    node: &mut Node<Thing>,
+    pocket: &mut Pocket,
+    held: Held,
+) {
+    if soaker.chance.is_so(30) {
+        pocket.put(rt, node, held);
+    } else {
+        let Held { hold, kind: _ } = held;
+        give_back(rt, node, hold);
+    }
+}
+
+// Calls a method without an argument: whether it was answered.
+pub(crate) fn call_plain<R: Wait>(
+    soaker: &mut Soaker,
+    rt: &R,
+    node: &mut Node<Thing>,
+    hold: &Hold,
+    method: u16,
+) -> bool {
+    match node.call(rt, hold, method, Value::Unit) {
+        Ok(returned) => {
+            soaker.figures.count_returned(&returned);
+            let is_answered = is_answer(&returned);
+            returned.forget();
+            is_answered
+        }
+        Err((error, _value)) => {
+            soaker.figures.count_error(error);
+            false
+        }
+    }
+}
+
+// Whether a call was answered.
+fn is_answer(returned: &Returned) -> bool {
+    match returned {
+        Returned::Replied { status, .. } => *status == 0,
+        Returned::Ended => false,
+    }
+}
