@@ -26,13 +26,13 @@ impl Caller {
         let Some(reference) = Reference::of_value(args) else {
             return Outcome::NoMethod;
         };
-        if reference.rep.owner.get() <= self.space.get() || !reference.kind.is_leaf() {
+        let Reference { rep: target, kind } = reference;
+        if target.owner.get() <= self.space.get() || !kind.is_leaf() {
             return Outcome::Fault(Value::Int(6));
         }
-        let method = if reference.kind == Kind::Table { 1 } else { 0 };
         Outcome::Call {
-            target: reference.rep,
-            method,
+            target,
+            method: method_for(kind),
             value: Value::Unit,
         }
     }
@@ -51,6 +51,14 @@ impl Caller {
             Done::Ended => Outcome::Fault(Value::Int(7)),
             Done::Refused(_) => Outcome::Fault(Value::Int(8)),
         }
+    }
+}
+
+// The method that is called of an object of a kind: a table is asked for what it keeps.
+fn method_for(kind: Kind) -> u16 {
+    match kind {
+        Kind::Table => 1,
+        _ => 0,
     }
 }
 

@@ -1,7 +1,6 @@
 //! The calls that a player makes by chance.
 
 use crate::desk::Doing;
-use crate::figures::add;
 use crate::kind::{Kind, Reference};
 use crate::player::Soaker;
 use crate::pocket::{Held, Pocket, give_back};
@@ -28,8 +27,8 @@ pub(crate) fn call_any<R: Wait>(
     } else {
         None
     };
-    let value = match &fresh {
-        Some(held) => value_of(soaker, held.reference()),
+    let value = match reference_in(&fresh) {
+        Some(reference) => value_of(soaker, reference),
         None => value_by(soaker, target, pocket),
     };
     soaker.say(rt, Doing::Calls(target.rep.owner.get()));
@@ -37,6 +36,14 @@ pub(crate) fn call_any<R: Wait>(
     take_returned(soaker, rt, node, pocket, called);
     if let Some(held) = fresh {
         keep_or_give_back(soaker, rt, node, pocket, held);
+    }
+}
+
+// The reference of a hold, if there is one.
+fn reference_in(held: &Option<Held>) -> Option<Reference> {
+    match held {
+        Some(held) => Some(held.reference()),
+        None => None,
     }
 }
 
@@ -139,17 +146,36 @@ fn keep_each<R: Wait>(
     node: &mut Node<Thing>,
     pocket: &mut Pocket,
     passed: Option<Reference>,
+    holds: Vec<Hold>,
+) {
+    match passed {
+        Some(reference) => {
+            let got = u64::try_from(holds.len()).unwrap_or(0);
+            soaker.figures.got = soaker.figures.got.saturating_add(got);
+            put_each(rt, node, pocket, reference.kind, holds);
+        }
+        None => give_each_back(rt, node, holds),
+    }
+}
+
+// Puts holds on objects of a kind into a pocket.
+fn put_each<R: Wait>(
+    rt: &R,
+    node: &mut Node<Thing>,
+    pocket: &mut Pocket,
+    kind: Kind,
     mut holds: Vec<Hold>,
 ) {
     while let Some(hold) = holds.pop() {
-        match passed {
-            Some(reference) => {
-                add(&mut soaker.figures.got);
-                let kind = reference.kind;
-                pocket.put(rt, node, Held { hold, kind });
-            }
-            None => give_back(rt, node, hold),
-        }
+        pocket.put(rt, node, Held { hold, kind });
+    }
+    holds.destroy_empty();
+}
+
+// Gives holds back.
+fn give_each_back<R: Wait>(rt: &R, node: &mut Node<Thing>, mut holds: Vec<Hold>) {
+    while let Some(hold) = holds.pop() {
+        give_back(rt, node, hold);
     }
     holds.destroy_empty();
 }

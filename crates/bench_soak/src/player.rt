@@ -26,7 +26,8 @@ pub(crate) struct Soaker<'s> {
     pub(crate) round: Round,
     pub(crate) space: SpaceId,
     pub(crate) chance: Chance,
-    pub(crate) desk: &'s Desk,
+    // Where each player says what it does.
+    desks: &'s [Desk],
     pub(crate) figures: Figures,
     /// Whether nothing of it was held in the end, by it or others, and how its sessions stood then.
     pub(crate) has_rested: bool,
@@ -34,14 +35,19 @@ pub(crate) struct Soaker<'s> {
 }
 
 impl<'s> Soaker<'s> {
-    // The player of a space in a round, who says at a desk what it does.
-    pub(crate) fn new(alloc: Global, round: Round, space: SpaceId, desk: &'s Desk) -> Soaker<'s> {
+    // The player of a space in a round, who says at its desk of these what it does.
+    pub(crate) fn new(
+        alloc: Global,
+        round: Round,
+        space: SpaceId,
+        desks: &'s [Desk],
+    ) -> Soaker<'s> {
         Soaker {
             alloc,
             round,
             space,
             chance: Chance::new(round.seed, u64::from(space.get())),
-            desk,
+            desks,
             figures: Figures::new(),
             has_rested: false,
             ends: Ends::unknown(),
@@ -50,7 +56,9 @@ impl<'s> Soaker<'s> {
 
     // Says what it does.
     pub(crate) fn say<R: Wait>(&self, rt: &R, doing: Doing) {
-        self.desk.say(rt, doing);
+        if let Some(desk) = self.desks.get(self.space.place()) {
+            desk.say(rt, doing);
+        }
     }
 
     // Waits for the others.

@@ -37,12 +37,13 @@ fn desks_of(alloc: Global, round: Round) -> Option<Vec<Desk>> {
     Some(desks)
 }
 
-// The players, each with a desk. Only memory fails it.
+// The players, each with a desk of these. Only memory fails it.
 fn players_of<'s>(alloc: Global, round: Round, desks: &'s [Desk]) -> Option<Vec<Soaker<'s>>> {
     let mut players = Vec::new(alloc);
-    for (place, desk) in desks.iter().enumerate() {
-        let space = space_at(place)?;
-        players.push(Soaker::new(alloc, round, space, desk)).ok()?;
+    for number in 1..=round.spaces {
+        let space = SpaceId::new(number)?;
+        let player = Soaker::new(alloc, round, space, desks);
+        players.push(player).ok()?;
     }
     Some(players)
 }

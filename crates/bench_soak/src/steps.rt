@@ -147,7 +147,7 @@ fn bind<R: Wait>(soaker: &mut Soaker, rt: &R, node: &mut Node<Thing>, pocket: &m
     let Some(held) = pocket.any(&mut soaker.chance) else {
         return;
     };
-    soaker.desk.say(rt, Doing::Makes);
+    soaker.say(rt, Doing::Makes);
     if let Err(error) = node.bind(rt, &name_of(held.kind, place), &held.hold) {
         soaker.figures.count_error(error);
     }

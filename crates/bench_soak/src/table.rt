@@ -84,13 +84,12 @@ impl Table {
 
     // Keeps a reference that it has a hold on.
     fn kept(&mut self, reference: Reference) -> Outcome {
-        match self.kept.push(reference) {
-            Ok(()) => Outcome::Answer(Value::Unit),
-            Err(_) => {
-                self.doing = Doing::Refuses;
-                Outcome::Release(reference.rep)
-            }
+        let is_kept = self.kept.push(reference).is_ok();
+        if is_kept {
+            return Outcome::Answer(Value::Unit);
         }
+        self.doing = Doing::Refuses;
+        Outcome::Release(reference.rep)
     }
 
     // Begins a method.
