@@ -22,20 +22,22 @@ pub(crate) fn call_any<R: Wait>(
         return;
     };
     let method = method_of(soaker, target.kind);
-    let fresh = if soaker.chance.is_so(25) {
-        made(soaker, rt, node)
-    } else {
-        None
-    };
-    let value = match reference_in(&fresh) {
-        Some(reference) => value_of(soaker, reference),
-        None => value_by(soaker, target, pocket),
-    };
+    let fresh = made_for_call(soaker, rt, node);
+    let value = value_by(soaker, target, pocket, reference_in(&fresh));
     soaker.say(rt, Doing::Calls(target.rep.owner.get()));
     let called = call_held(rt, node, pocket, target.rep, method, value);
     take_returned(soaker, rt, node, pocket, called);
     if let Some(held) = fresh {
         keep_or_give_back(soaker, rt, node, pocket, held);
+    }
+}
+
+// A new object that is to be passed, for one call of four.
+fn made_for_call<R: Wait>(soaker: &mut Soaker, rt: &R, node: &mut Node<Thing>) -> Option<Held> {
+    if soaker.chance.is_so(25) {
+        made(soaker, rt, node)
+    } else {
+        None
     }
 }
 
@@ -73,9 +75,17 @@ fn value_of(soaker: &mut Soaker, reference: Reference) -> Value {
     reference.value(soaker.alloc).unwrap_or(Value::Unit)
 }
 
-// An argument for an object: often a reference that is held, be it of this space, of the object's or of
-// a third one; for a caller one that it calls, if there is one.
-fn value_by(soaker: &mut Soaker, target: Reference, pocket: &Pocket) -> Value {
+// An argument for an object: a reference to a new object, if there is one; else often one that is held, be
+// it of this space, of the object's or of a third one; for a caller one that it calls, if there is one.
+fn value_by(
+    soaker: &mut Soaker,
+    target: Reference,
+    pocket: &Pocket,
+    fresh: Option<Reference>,
+) -> Value {
+    if let Some(reference) = fresh {
+        return value_of(soaker, reference);
+    }
     let found = if target.kind == Kind::Caller {
         pocket.any_above(&mut soaker.chance, target.rep.owner)
     } else {

@@ -21,11 +21,11 @@ const TRIES: u32 = 20;
 // whose Close is lost hears of it only when it sends something itself. So each sends something.
 pub(crate) fn mend<R: Wait>(soaker: &mut Soaker, rt: &R, node: &mut Node<Thing>) {
     clear_others(soaker, rt, node);
-    if soaker.round.shape.loss > 0 {
+    if soaker.plan.loss > 0 {
         close_some(soaker, rt, node);
     }
     hear_others(soaker, rt, node);
-    for number in 1..=soaker.round.spaces {
+    for number in 1..=soaker.plan.spaces {
         if let Some(peer) = SpaceId::new(number) {
             if is_closed(rt, node, peer) {
                 open_anew(soaker, rt, node, peer);
@@ -36,9 +36,9 @@ pub(crate) fn mend<R: Wait>(soaker: &mut Soaker, rt: &R, node: &mut Node<Thing>)
 
 // Closes sessions by chance.
 fn close_some<R: Wait>(soaker: &mut Soaker, rt: &R, node: &mut Node<Thing>) {
-    for number in 1..=soaker.round.spaces {
+    for number in 1..=soaker.plan.spaces {
         if number != soaker.space.get()
-            && soaker.chance.is_so(soaker.round.closes)
+            && soaker.chance.is_so(soaker.plan.closes)
             && let Some(peer) = SpaceId::new(number)
         {
             close(soaker, rt, node, peer);

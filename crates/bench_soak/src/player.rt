@@ -7,7 +7,7 @@ use crate::kind::{KINDS, Kind};
 use crate::mending::{give_up_all, mend};
 use crate::pocket::{Pocket, give_back};
 use crate::resting::{Ends, clear_others, ends_of, hear_others, rest};
-use crate::round::Round;
+use crate::round::Plan;
 use crate::steps::step;
 use crate::thing::Thing;
 use nob_ids::SpaceId;
@@ -23,7 +23,7 @@ const PHASES: u64 = 3;
 #[derive(Drop)]
 pub(crate) struct Soaker<'s> {
     pub(crate) alloc: Global,
-    pub(crate) round: Round,
+    pub(crate) plan: Plan,
     pub(crate) space: SpaceId,
     pub(crate) chance: Chance,
     // Where each player says what it does.
@@ -35,18 +35,18 @@ pub(crate) struct Soaker<'s> {
 }
 
 impl<'s> Soaker<'s> {
-    // The player of a space in a round, who says at its desk of these what it does.
+    // The player of a space, who says at its desk of these what it does.
     pub(crate) fn new(
         alloc: Global,
-        round: Round,
+        plan: Plan,
         space: SpaceId,
         desks: &'s [Desk],
     ) -> Soaker<'s> {
         Soaker {
             alloc,
-            round,
+            plan,
             space,
-            chance: Chance::new(round.seed, u64::from(space.get())),
+            chance: Chance::new(plan.seed, u64::from(space.get())),
             desks,
             figures: Figures::new(),
             has_rested: false,
@@ -69,7 +69,7 @@ impl<'s> Soaker<'s> {
 
     // A peer by chance.
     pub(crate) fn any_peer(&mut self) -> Option<SpaceId> {
-        let others = u64::from(self.round.spaces).saturating_sub(1);
+        let others = u64::from(self.plan.spaces).saturating_sub(1);
         let drawn = self.chance.below(others).saturating_add(1);
         let number = if drawn >= u64::from(self.space.get()) {
             drawn.saturating_add(1)
@@ -102,7 +102,7 @@ impl<'s> Soaker<'s> {
 
     // Takes the steps of a phase.
     fn step_all<R: Wait>(&mut self, rt: &R, node: &mut Node<Thing>, pocket: &mut Pocket) {
-        for _ in 0..self.round.steps / PHASES {
+        for _ in 0..self.plan.steps / PHASES {
             self.figures.steps = self.figures.steps.saturating_add(1);
             step(self, rt, node, pocket);
         }

@@ -50,7 +50,7 @@ impl Ends {
 pub(crate) fn ends_of<R: Wait>(soaker: &Soaker, rt: &R, node: &mut Node<Thing>) -> Ends {
     let mut ends = Ends::unknown();
     ends.live = node.live(rt);
-    for number in 1..=soaker.round.spaces {
+    for number in 1..=soaker.plan.spaces {
         if let Some(peer) = SpaceId::new(number)
             && let Some(tally) = ends.tallies.get_mut(peer.place())
         {
@@ -68,7 +68,7 @@ pub(crate) fn doze<R: Wait>(rt: &R, micros: u64) {
 
 // Has the table of each peer that can be reached give back what it keeps.
 pub(crate) fn clear_others<R: Wait>(soaker: &mut Soaker, rt: &R, node: &mut Node<Thing>) {
-    for number in 1..=soaker.round.spaces {
+    for number in 1..=soaker.plan.spaces {
         if number != soaker.space.get()
             && let Some(peer) = SpaceId::new(number)
         {
@@ -98,7 +98,7 @@ fn clear_at<R: Wait>(soaker: &mut Soaker, rt: &R, node: &mut Node<Thing>, peer: 
 // Has each peer say that it is there, if it can be reached: so a session is closed here that is closed
 // there, and all that went there before has come.
 pub(crate) fn hear_others<R: Wait>(soaker: &mut Soaker, rt: &R, node: &mut Node<Thing>) {
-    for number in 1..=soaker.round.spaces {
+    for number in 1..=soaker.plan.spaces {
         if number != soaker.space.get()
             && let Some(peer) = SpaceId::new(number)
         {

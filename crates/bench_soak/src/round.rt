@@ -37,6 +37,22 @@ pub(crate) struct Round {
     pub(crate) shape: Shape,
 }
 
+/// What a player is to do, one of so many.
+#[derive(Clone, Copy, Debug)]
+pub(crate) struct Plan {
+    /// How many spaces there are.
+    pub(crate) spaces: u16,
+    /// How many steps it takes in all.
+    pub(crate) steps: u64,
+    /// Of a thousand steps so many close a session; over links that lose, of a hundred sessions so many
+    /// are closed between two phases.
+    pub(crate) closes: u64,
+    /// About so many frames of ten each link loses.
+    pub(crate) loss: u64,
+    /// Where all chances of the round start.
+    pub(crate) seed: u64,
+}
+
 /// A tick is made after so many turns at least, and after twice as many at most; over links that lose
 /// after eight times as many.
 const TICK: u64 = 128;
@@ -84,6 +100,17 @@ impl Round {
                 chance.below(40)
             },
             shape,
+        }
+    }
+
+    // What each player is to do.
+    pub(crate) fn plan(&self) -> Plan {
+        Plan {
+            spaces: self.spaces,
+            steps: self.steps,
+            closes: self.closes,
+            loss: self.shape.loss,
+            seed: self.seed,
         }
     }
 

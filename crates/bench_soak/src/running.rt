@@ -4,7 +4,7 @@ use crate::carriers::{Carrier, Way};
 use crate::desk::Desk;
 use crate::judging::{Outcome, outcome_of};
 use crate::player::Soaker;
-use crate::round::Round;
+use crate::round::{Plan, Round};
 use crate::watch::Watch;
 use nob_ids::SpaceId;
 use nob_node::OpenGate;
@@ -22,7 +22,7 @@ pub(crate) fn run_round<R: Threads + Wait + Sync + Print + Eprint>(
 ) -> Option<Outcome> {
     let (nodes, carriers) = nodes_of(alloc, round)?;
     let desks = desks_of(alloc, round)?;
-    let players = players_of(alloc, round, desks.as_slice())?;
+    let players = players_of(alloc, round.plan(), desks.as_slice())?;
     let mut watch = Watch::new(rt, desks.as_slice(), carriers);
     let played = run_nodes(rt, nodes, &OpenGate, players, &mut watch)?;
     Some(outcome_of(alloc, played))
@@ -38,11 +38,11 @@ fn desks_of(alloc: Global, round: Round) -> Option<Vec<Desk>> {
 }
 
 // The players, each with a desk of these. Only memory fails it.
-fn players_of<'s>(alloc: Global, round: Round, desks: &'s [Desk]) -> Option<Vec<Soaker<'s>>> {
+fn players_of<'s>(alloc: Global, plan: Plan, desks: &'s [Desk]) -> Option<Vec<Soaker<'s>>> {
     let mut players = Vec::new(alloc);
-    for number in 1..=round.spaces {
+    for number in 1..=plan.spaces {
         let space = SpaceId::new(number)?;
-        let player = Soaker::new(alloc, round, space, desks);
+        let player = Soaker::new(alloc, plan, space, desks);
         players.push(player).ok()?;
     }
     Some(players)

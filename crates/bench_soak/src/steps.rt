@@ -25,7 +25,7 @@ pub(crate) fn step<R: Wait>(
     if pocket.len() > MOST_HELD {
         pocket.give_one_back(rt, node, &mut soaker.chance);
     }
-    if soaker.round.shape.loss == 0 && soaker.chance.below(1_000) < soaker.round.closes {
+    if soaker.plan.loss == 0 && soaker.chance.below(1_000) < soaker.plan.closes {
         close_any(soaker, rt, node);
     }
     match soaker.chance.below(100) {

@@ -84,8 +84,7 @@ impl Table {
 
     // Keeps a reference that it has a hold on.
     fn kept(&mut self, reference: Reference) -> Outcome {
-        let is_kept = self.kept.push(reference).is_ok();
-        if is_kept {
+        if add(&mut self.kept, reference) {
             return Outcome::Answer(Value::Unit);
         }
         self.doing = Doing::Refuses;
@@ -116,4 +115,9 @@ impl Table {
             Doing::Clears => self.give_back(Doing::Clears),
         }
     }
+}
+
+// One reference more, if there is memory for it: whether there was.
+fn add(kept: &mut Vec<Reference>, reference: Reference) -> bool {
+    kept.push(reference).is_ok()
 }
