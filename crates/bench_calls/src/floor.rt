@@ -9,7 +9,7 @@ use std::alloc::Global;
 use std::sync::Wait;
 use std::thread::{self, Threads};
 
-/// So many parcels a link holds.
+/// How many parcels a link holds.
 const LINK: usize = 16;
 
 /// A thread that puts parcels and takes them back, with how often that went well.
@@ -70,7 +70,7 @@ impl Wall {
     }
 }
 
-// So many pairs of threads send a frame to and fro, each so many times: how often it came back.
+// Pairs of threads send a frame to and fro, each pair as often: how often it came back.
 // `None` where memory is wanted.
 pub(crate) fn run_floor<R: Threads + Wait + Sync + Print>(
     rt: &R,

@@ -8,7 +8,7 @@ use crate::timer::Waited;
 use nob_ids::SpaceId;
 use nob_model_types::Answer;
 use nob_node::{OpenGate, Record};
-use nob_nodes::{Beside, Meeting, Nodes, Played, Shape, run_nodes};
+use nob_nodes::{Beside, Layout, Meeting, Nodes, Played, run_nodes};
 use std::alloc::Global;
 use std::sync::Wait;
 use std::sync::atomic::AtomicU64;
@@ -66,21 +66,21 @@ pub(crate) fn run_all<R: Threads + Wait + Sync + Print + Clock>(
     let served = AtomicU64::new(0);
     let players = players_of(rt, &served, alloc, task)?;
     let count = u16::try_from(players.len()).ok()?;
-    let nodes = Nodes::linked(alloc, shape_of(task)?, count)?;
+    let nodes = Nodes::linked(alloc, layout_of(task)?, count)?;
     let mut teller = Teller { out: rt };
     let played = run_nodes(rt, nodes, &OpenGate, players, &mut teller)?;
     outcome_of(alloc, played)
 }
 
 // How the nodes of a task run: with links of 1,024 parcels and four workers.
-fn shape_of(task: Task) -> Option<Shape> {
-    let mut shape = Shape::new(task.keep);
-    shape.limits = task.limits()?;
-    shape.workers = 4;
-    shape.pause = 4;
-    shape.capacity = 1024;
-    shape.loss = task.loss;
-    Some(shape)
+fn layout_of(task: Task) -> Option<Layout> {
+    let mut layout = Layout::new(task.keep);
+    layout.limits = task.limits()?;
+    layout.workers = 4;
+    layout.pause = 4;
+    layout.capacity = 1024;
+    layout.loss = task.loss;
+    Some(layout)
 }
 
 // The applications of all spaces. Only memory fails it.

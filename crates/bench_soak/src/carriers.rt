@@ -3,8 +3,8 @@
 use nob_link::{Parcel, PutEnd, TakeEnd, TryPutError};
 use std::sync::Wait;
 
-/// So many parcels are carried one way before the other comes.
-const MOST: u32 = 32;
+/// How many parcels are carried one way at most before the other comes.
+const MAX_ONE_WAY: u32 = 32;
 
 /// The way of parcels from one node to another, over two links.
 #[derive(Drop)]
@@ -49,7 +49,7 @@ impl Way {
     // Carries what there is on: how many parcels, or `None` where it ends.
     fn carry_some<R: Wait>(&mut self, rt: &R) -> Option<u64> {
         let mut count: u64 = 0;
-        for _ in 0..MOST {
+        for _ in 0..MAX_ONE_WAY {
             if !self.carry(rt)? {
                 break;
             }

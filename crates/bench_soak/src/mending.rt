@@ -11,7 +11,7 @@ use nob_model_types::Refusal;
 use nob_node::{Node, NodeError};
 use std::sync::Wait;
 
-/// So often it tries to open a session, while something of the peer's is still under way here.
+/// How often it tries to open a session, while something of the peer's is still under way here.
 const TRIES: u32 = 20;
 
 // Opens each session anew that is closed, once what others keep is given back and no name stands

@@ -16,7 +16,7 @@ use nob_nodes::{Company, Player};
 use std::alloc::Global;
 use std::sync::Wait;
 
-/// So many phases a round has: between two of them what was closed is opened anew.
+/// How many phases a round has: between two of them what was closed is opened anew.
 const PHASES: u64 = 3;
 
 /// A player.

@@ -15,24 +15,24 @@ use std::sync::Wait;
 use std::sync::atomic::AtomicU64;
 use std::time::Duration;
 
-/// So many spaces there are at most.
-pub(crate) const MOST_SPACES: usize = 8;
+/// How many spaces there are at most.
+pub(crate) const MAX_SPACES: usize = 8;
 
-/// So often it looks whether nothing is held any more, before it gives up.
+/// How often it looks whether nothing is held any more, before it gives up.
 const LOOKS: u64 = 20_000;
 
-/// After so many looks it has its peers say that they are there.
+/// After how many looks it has its peers say that they are there.
 const LOOKS_A_WORD: u64 = 50;
 
 const LAST_LOOK: u64 = LOOKS_A_WORD - 1;
 
-/// So often it tries to have a table give back what it keeps.
+/// How often it tries to have a table give back what it keeps.
 const TRIES: u32 = 100;
 
 /// How a player's sessions stood in the end, by the place of the peer.
 #[derive(Clone, Copy, Debug)]
 pub(crate) struct Ends {
-    pub(crate) tallies: [Option<Tally>; MOST_SPACES],
+    pub(crate) tallies: [Option<Tally>; MAX_SPACES],
     pub(crate) live: u64,
 }
 
@@ -40,7 +40,7 @@ impl Ends {
     // Nobody has looked.
     pub(crate) fn unknown() -> Ends {
         Ends {
-            tallies: [None; MOST_SPACES],
+            tallies: [None; MAX_SPACES],
             live: 0,
         }
     }

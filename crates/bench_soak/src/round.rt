@@ -3,7 +3,7 @@
 use crate::chance::Chance;
 use nob_ids::{Limits, SpaceId};
 use nob_node::Keep;
-use nob_nodes::Shape;
+use nob_nodes::Layout;
 
 /// What is asked for: so many rounds, one after the other, from a seed on, but none begins after so many
 /// seconds, where these aren't 0. Where the spaces or the workers are 0 each round has some by chance.
@@ -34,7 +34,7 @@ pub(crate) struct Round {
     /// Of a hundred pairs of nodes so many have links whose ends are let go in the middle.
     pub(crate) cuts: u64,
     /// How the nodes run, and what the links do.
-    pub(crate) shape: Shape,
+    pub(crate) layout: Layout,
 }
 
 /// What a player is to do, one of so many.
@@ -53,14 +53,14 @@ pub(crate) struct Plan {
     pub(crate) seed: u64,
 }
 
-/// A tick is made after so many turns at least, and after twice as many at most; over links that lose
+/// After how many turns a tick is made at least; after twice as many at most, and over links that lose
 /// after eight times as many.
 const TICK: u64 = 128;
 
-/// So many parcels are carried at least, and so many at most, before links are let go.
-const LEAST_CARRIED: u64 = 100;
+/// How many parcels are carried at least, and at most, before links are let go.
+const MIN_CARRIED: u64 = 100;
 
-const MOST_CARRIED: u64 = 4_000;
+const MAX_CARRIED: u64 = 4_000;
 
 impl Round {
     // The one of a number.
@@ -72,18 +72,18 @@ impl Round {
         } else {
             Keep::Nothing
         };
-        let mut shape = Shape::new(keep);
-        shape.workers = usize::from(wished(wish.workers, &mut chance, 1, 16));
-        shape.loss = if chance.is_so(25) {
+        let mut layout = Layout::new(keep);
+        layout.workers = usize::from(wished(wish.workers, &mut chance, 1, 16));
+        layout.loss = if chance.is_so(25) {
             0
         } else {
             chance.between(1, 4)
         };
-        shape.seed = chance.below(1 << 32);
-        shape.pause = u32::from(chance.small_between(1, 8));
-        shape.tick_every = ticks_by(&mut chance, shape);
-        shape.capacity = usize::from(chance.small_between(1, 64));
-        shape.limits = limits_by(&mut chance);
+        layout.seed = chance.below(1 << 32);
+        layout.pause = u32::from(chance.small_between(1, 8));
+        layout.tick_every = ticks_by(&mut chance, layout);
+        layout.capacity = usize::from(chance.small_between(1, 64));
+        layout.limits = limits_by(&mut chance);
         Round {
             number,
             seed: chance.below(1 << 32),
@@ -99,7 +99,7 @@ impl Round {
             } else {
                 chance.below(40)
             },
-            shape,
+            layout,
         }
     }
 
@@ -109,7 +109,7 @@ impl Round {
             spaces: self.spaces,
             steps: self.steps,
             closes: self.closes,
-            loss: self.shape.loss,
+            loss: self.layout.loss,
             seed: self.seed,
         }
     }
@@ -123,7 +123,7 @@ impl Round {
         if !chance.is_so(self.cuts) {
             return None;
         }
-        Some(chance.between(LEAST_CARRIED, MOST_CARRIED))
+        Some(chance.between(MIN_CARRIED, MAX_CARRIED))
     }
 }
 
@@ -137,14 +137,14 @@ fn wished(wish: u64, chance: &mut Chance, least: u8, most: u8) -> u8 {
 }
 
 // After how many repeats a tick is made.
-fn ticks_by(chance: &mut Chance, shape: Shape) -> u32 {
+fn ticks_by(chance: &mut Chance, layout: Layout) -> u32 {
     let turns = chance.between(TICK, TICK.saturating_mul(2));
-    let all = if shape.loss == 0 {
+    let all = if layout.loss == 0 {
         turns
     } else {
         turns.saturating_mul(8)
     };
-    let repeats = all.checked_div(u64::from(shape.pause)).unwrap_or(all);
+    let repeats = all.checked_div(u64::from(layout.pause)).unwrap_or(all);
     u32::try_from(repeats).unwrap_or(u32::MAX)
 }
 

@@ -57,7 +57,7 @@ pub(crate) fn space_at(place: usize) -> Option<SpaceId> {
 // The nodes, with links between each two of them, and who carries between those whose links are cut.
 // Only memory fails it.
 fn nodes_of(alloc: Global, round: Round) -> Option<(Nodes, Vec<Carrier>)> {
-    let mut nodes = Nodes::new(alloc, round.shape, round.spaces)?;
+    let mut nodes = Nodes::new(alloc, round.layout, round.spaces)?;
     let mut carriers = Vec::new(alloc);
     for second in 2..=round.spaces {
         for first in 1..second {

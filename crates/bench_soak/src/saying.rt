@@ -34,11 +34,11 @@ pub(crate) fn say<R: Print + Eprint>(
 fn say_round<R: Print>(rt: &R, round: Round) -> io::Result<()> {
     let number = round.number;
     let spaces = round.spaces;
-    let workers = round.shape.workers;
-    let loss = round.shape.loss;
+    let workers = round.layout.workers;
+    let loss = round.layout.loss;
     let cuts = round.cuts;
     let closes = round.closes;
-    let keep = round.shape.keep;
+    let keep = round.layout.keep;
     println!(rt;
         "round {number}: {spaces} spaces, {workers} workers, loss {loss}, {closes} closes of 1000, {cuts} cuts of 100, keeps {keep:?}"
     )

@@ -12,8 +12,8 @@ use nob_ids::SpaceId;
 use nob_node::{Hold, Node};
 use std::sync::Wait;
 
-/// So many references a player holds at most, before it gives one back.
-const MOST_HELD: usize = 24;
+/// How many references a player holds at most, before it gives one back.
+const MAX_HELD: usize = 24;
 
 // One step.
 pub(crate) fn step<R: Wait>(
@@ -22,7 +22,7 @@ pub(crate) fn step<R: Wait>(
     node: &mut Node<Thing>,
     pocket: &mut Pocket,
 ) {
-    if pocket.len() > MOST_HELD {
+    if pocket.len() > MAX_HELD {
         pocket.give_one_back(rt, node, &mut soaker.chance);
     }
     if soaker.plan.loss == 0 && soaker.chance.below(1_000) < soaker.plan.closes {

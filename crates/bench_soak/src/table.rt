@@ -7,8 +7,8 @@ use nob_pickle::Value;
 use std::alloc::Global;
 use std::mem;
 
-/// So many references a table keeps at most.
-const MOST: usize = 8;
+/// How many references a table keeps at most.
+const MAX_KEPT: usize = 8;
 
 /// What a table does while a method runs.
 #[derive(Clone, Copy, Debug)]
@@ -53,7 +53,7 @@ impl Table {
         let Some(reference) = Reference::of_value(args) else {
             return Outcome::NoMethod;
         };
-        if reference.rep.owner == self.space || self.kept.len() >= MOST {
+        if reference.rep.owner == self.space || self.kept.len() >= MAX_KEPT {
             return Outcome::Fault(Value::Int(2));
         }
         self.doing = Doing::Keeps(reference);

@@ -9,7 +9,7 @@ use nob_pickle::Value;
 use std::alloc::Global;
 use std::thread;
 
-/// So often a slow object leaves its processor to others before it answers.
+/// How often a slow object leaves its processor to others before it answers.
 const SLOWNESS: u32 = 2_000;
 
 /// An object.

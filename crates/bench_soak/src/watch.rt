@@ -6,14 +6,14 @@ use crate::resting::doze;
 use nob_nodes::{Beside, Meeting};
 use std::sync::Wait;
 
-/// So many microseconds it rests at least where it carries and there was nothing, and where it only
+/// For how many microseconds it rests at least where it carries and there was nothing, and where it only
 /// watches.
 const SHORT_REST: u64 = 100;
 
 const REST: u64 = 5_000;
 
-/// After so many microseconds of rest, by its own count, in which nobody said that he does something, it says where each
-/// waits.
+/// After how many microseconds of rest, by its own count, in which nobody said that he does something, it
+/// says where each waits.
 const PATIENCE: u64 = 10_000_000;
 
 /// Who carries and watches beside the nodes, and says on standard error where each waits, if nothing

@@ -8,7 +8,9 @@ mod counter;
 use crate::counter::Counter;
 use nob_node::Node;
 use nob_pickle::Value;
-use nob_two_nodes::{Partner, Player, answer_to, give_back, look_up, offer, retire, run_two};
+use nob_two_nodes::{
+    Company, Player, answer_to, give_back, look_up, offer, partner_of, retire, run_two,
+};
 use std::io;
 use std::sync::Wait;
 
@@ -17,11 +19,11 @@ use std::sync::Wait;
 struct Owner;
 
 impl Player<Counter> for Owner {
-    fn run<R: Wait>(&mut self, rt: &R, node: &mut Node<Counter>, partner: &mut Partner) {
+    fn run<R: Wait>(&mut self, rt: &R, node: &mut Node<Counter>, company: &Company) {
         if let Some(hold) = offer(rt, node, b"counter", Counter { total: 0 }) {
-            partner.meet(rt);
+            company.meet(rt);
             // The other looks the counter up and calls it.
-            partner.meet(rt);
+            company.meet(rt);
             retire(rt, node, b"counter", hold);
         }
     }
@@ -35,24 +37,28 @@ struct Caller {
 }
 
 impl Player<Counter> for Caller {
-    fn run<R: Wait>(&mut self, rt: &R, node: &mut Node<Counter>, partner: &mut Partner) {
-        partner.meet(rt);
-        if let Some(hold) = look_up(rt, node, partner.space(), b"counter") {
+    fn run<R: Wait>(&mut self, rt: &R, node: &mut Node<Counter>, company: &Company) {
+        company.meet(rt);
+        if let Some(hold) = look_up(rt, node, partner_of(company), b"counter") {
             for _ in 0..3 {
                 self.said = answer_to(rt, node, &hold, 0, Value::Int(14));
             }
             let _ = give_back(rt, node, hold);
         }
-        partner.meet(rt);
+        company.meet(rt);
     }
 }
 
 fn main(rt: HostRuntime) -> io::Result<()> {
-    let Some((owner, caller)) = run_two(&rt, rt.alloc(), 2, Owner, Caller { said: None }) else {
+    let Some((owner, caller)) = run_two(&rt, rt.alloc(), Owner, Caller { said: None }) else {
         return println!(&rt; "it failed");
     };
     if let Some(Value::Int(total)) = caller.player.said {
         println!(&rt; "the counter says {total}")?;
     }
-    println!(&rt; "it is withdrawn: {}", owner.report.objects.is_empty())
+    let is_withdrawn = match owner.left {
+        Ok(report) => report.objects.is_empty(),
+        Err(_) => false,
+    };
+    println!(&rt; "it is withdrawn: {is_withdrawn}")
 }

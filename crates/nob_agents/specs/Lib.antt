@@ -1,3 +1,4 @@
 pub mod Taking
 pub mod Ways
 pub mod Sending
+pub mod Pauses

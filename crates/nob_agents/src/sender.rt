@@ -17,8 +17,8 @@ use nob_model_types::Event;
 use std::marker::Model;
 use std::sync::Wait;
 
-/// So many parcels are put, or shims passed, in a turn at most.
-const MOST_STEPS: u32 = 256;
+/// The maximum number of steps in a turn: parcels that are put, or pass a shim.
+const MAX_STEPS: u32 = 256;
 
 /// The agent that transmits to the peers of a space, and puts what that gives at their links.
 /// Contracts see its ways, its receipts, and how many frames of the newest receipt have gone on;
@@ -145,7 +145,7 @@ impl<P: PutParcel + Drop> Sender<P> {
     // them where a link is full.
     fn put_all<R: Wait>(&mut self, rt: &R) -> Result<(u64, bool), KeeperError> {
         let mut count: u64 = 0;
-        for _ in 0..MOST_STEPS {
+        for _ in 0..MAX_STEPS {
             match self.put_next(rt) {
                 Step::Put => count = count.saturating_add(1),
                 Step::Full => return Ok((count, false)),
@@ -244,7 +244,7 @@ impl<P: PutParcel + Drop> Sender<P> {
         let all = keeper.dues(rt);
         self.gone = self.gone.take().or(self.lost(&all));
         let mut dues = self.known(&all);
-        for _ in 0..MOST_STEPS {
+        for _ in 0..MAX_STEPS {
             if !is_clear {
                 break;
             }

@@ -14,8 +14,8 @@ use nob_model_types::{Answer, Event};
 use std::marker::Model;
 use std::sync::Wait;
 
-/// So many items are acted on in a turn at most.
-const MOST_ACTS: u32 = 64;
+/// The maximum number of items that are acted on in a turn.
+const MAX_ACTS: u32 = 64;
 
 /// The agent that takes what comes over the link from one peer: it has each frame arrive, and acts
 /// on what was accepted. Contracts see the peer, the parcels that its end took, its receipts and
@@ -161,7 +161,7 @@ impl<T: TakeParcel + Drop> Taker<T> {
             self.take(rt);
         }
         let mut count = self.answer(rt, keeper)?;
-        for _ in 0..MOST_ACTS {
+        for _ in 0..MAX_ACTS {
             let acted = self.act(rt, keeper)?;
             if acted == 0 {
                 break;

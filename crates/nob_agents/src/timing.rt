@@ -1,18 +1,21 @@
 //! When an agent transmits.
 
+ghost use Rattle.std.specs.Prelude.{◌≡◌};
+ghost use Rattle.nob_agents.specs.Pauses as pausing;
+
 use nob_ids::SpaceId;
 use nob_keeper::{Due, is_new};
 use nob_model_types::Event;
 
-/// So many turns an Ack waits for items that it could go with.
+/// For how many turns an Ack waits for items that it could go with.
 const ACK_PAUSE: u32 = 2;
 
 /// After so many repeats to a peer that had nothing new meanwhile the time until the next one
 /// doubles.
 const REPEATS_AT_A_PACE: u32 = 16;
 
-/// So many pauses pass between two repeats at most.
-const MOST_PAUSES: u32 = 32;
+/// How often that time doubles at most.
+const MAX_DOUBLINGS: u32 = 5;
 
 /// When an agent that sends transmits to whom: what is new at once; an Ack alone after some turns,
 /// in which it may still go with an item; and what is out again after a pause of more turns, or of
@@ -25,21 +28,28 @@ pub(crate) struct Timing {
     turns: [u32; 32],
     // At place p - 1: so often what is out to space p was transmitted again, and nothing new was.
     repeats: [u32; 32],
-    // So many pauses passed before repeats since the last tick.
+    // How many pauses passed before repeats since the last tick.
     pauses: u32,
     tick: Option<SpaceId>,
 }
 
 // How many pauses pass before what is out is transmitted once more, where it was so often.
-fn pauses_after(repeats: u32) -> u32 {
-    let mut pauses: u32 = 1;
-    for _ in 0..repeats / REPEATS_AT_A_PACE {
-        if pauses >= MOST_PAUSES {
-            break;
-        }
-        pauses = pauses.saturating_mul(2);
+fn pauses_after(repeats: u32) -> u32
+    ensures { result ≡ pausing.pauses_after repeats }
+{
+    1 << (repeats / REPEATS_AT_A_PACE).min(MAX_DOUBLINGS)
+}
+
+// Whether what isn't new has waited as long as it is to: for so many turns since it was transmitted
+// last, where it was repeated so often.
+fn is_time(pause: u32, turns: u32, repeats: u32, due: Due) -> bool
+    ensures { result ≡ pausing.is_time pause turns repeats due }
+{
+    match due {
+        Due::Ack => turns >= pause.min(ACK_PAUSE),
+        Due::Again => turns >= pause.saturating_mul(pauses_after(repeats)),
+        _ => false,
     }
-    pauses
 }
 
 impl Timing {
@@ -90,30 +100,18 @@ impl Timing {
         None
     }
 
-    // Whether what isn't new has waited as long as it is to.
+    // Whether what isn't new has waited as long as it is to, at the place of a peer.
     fn is_time(&self, place: usize, due: Due) -> bool {
-        let Some(turns) = self.turns.get(place) else {
-            return false;
-        };
-        match due {
-            Due::Ack => *turns >= self.pause.min(ACK_PAUSE),
-            Due::Again => *turns >= self.pause.saturating_mul(self.pauses_to(place)),
+        match (self.turns.get(place), self.repeats.get(place)) {
+            (Some(turns), Some(repeats)) => is_time(self.pause, *turns, *repeats, due),
             _ => false,
-        }
-    }
-
-    // How many pauses pass before what is out to the peer of a place is transmitted again.
-    fn pauses_to(&self, place: usize) -> u32 {
-        match self.repeats.get(place) {
-            Some(repeats) => pauses_after(*repeats),
-            None => MOST_PAUSES,
         }
     }
 
     // Transmits to a peer what isn't new. A tick follows after every so many pauses.
     fn transmit_again(&mut self, peer: SpaceId, due: Due) -> Event {
         let place = peer.place();
-        let pauses = self.pauses_to(place);
+        let pauses = pauses_after(self.repeats[place]);
         self.turns[place] = 0;
         if due == Due::Again {
             self.repeats[place] = self.repeats[place].saturating_add(1);
@@ -122,8 +120,7 @@ impl Timing {
         Event::Transmit(peer)
     }
 
-    // So many pauses more have passed: the session with this peer ticks where they are as many as a
-    // tick takes.
+    // More pauses have passed: the session with this peer ticks where they are as many as a tick takes.
     fn count_pauses(&mut self, peer: SpaceId, pauses: u32) {
         if self.tick_every == 0 {
             return;

@@ -3,7 +3,7 @@
 /// What an agent did in a turn.
 #[derive(Clone, Copy, Debug, PartialEq, Eq)]
 pub enum Turn {
-    /// So many events, or, of a Sender, so many parcels that it put.
+    /// How many events it made, or, of a Sender, how many parcels it put.
     Did(u64),
     /// There was nothing to do.
     Idle,

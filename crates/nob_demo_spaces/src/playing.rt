@@ -9,7 +9,7 @@ use crate::scene::Scene;
 use crate::{Counter, Ending, Score, Stop, graver, say};
 use nob_chain::Chain;
 use nob_nodes::{
-    Keep, Left, Nobody, NodeError, Nodes, OpenGate, Played, Record, Report, Shape, Summary,
+    Keep, Layout, Left, Nobody, NodeError, Nodes, OpenGate, Played, Record, Report, Summary,
     run_nodes,
 };
 use std::alloc::Global;
@@ -43,18 +43,18 @@ fn run_all<R: Threads + Wait + Sync>(
 ) -> Option<Vec<Played<Counter, ScenePlayer>>>
     ensures { IfSome result (λ all. length all.items ≡ scene.spaces) }
 {
-    let nodes = Nodes::linked(alloc, shape_of(scene), u16::from(scene.spaces()))?;
+    let nodes = Nodes::linked(alloc, layout_of(scene), u16::from(scene.spaces()))?;
     let players = players_of(alloc, scene)?;
     run_nodes(rt, nodes, &OpenGate, players, &mut Nobody)
 }
 
 // How the nodes of a scene run, and what the links between them do.
-fn shape_of(scene: Scene) -> Shape {
-    let mut shape = Shape::new(scene.keep());
-    shape.workers = usize::from(scene.workers());
-    shape.loss = u64::from(scene.loss());
-    shape.seed = scene.seed();
-    shape
+fn layout_of(scene: Scene) -> Layout {
+    let mut layout = Layout::new(scene.keep());
+    layout.workers = usize::from(scene.workers());
+    layout.loss = u64::from(scene.loss());
+    layout.seed = scene.seed();
+    layout
 }
 
 /// What spaces left: chains, where all was kept, or else summaries.

@@ -2,11 +2,11 @@
 use Rattle.std.proofs.Common.{◌≡◌, ℕ, Bool, true, false, List, [], ◌∷◌, ◌++◌, reverse, Option, Some, None, IfSome, refl, sym, subst, ap, ◌∙◌}
 use Rattle.std.proofs.lemmas.List.{reverse-append}
 use Rattle.nob_model_types.specs.declared.answer.Job.{Job}
-use Rattle.nob_dispatch_jobs.specs.declared.errand.Errand.{Errand}
-use Rattle.nob_dispatch_jobs.specs.declared.errand.Return.{Return}
-use Rattle.nob_dispatch_jobs.specs.KeeperError.{KeeperError}
-use Rattle.nob_dispatch_jobs.specs.Ends.{ended, number_in, target_in}
-use Rattle.nob_dispatch_jobs.specs.Working.{Working, with_errand, freed, got}
+use Rattle.nob_dispatch.specs.declared.errand.Errand.{Errand}
+use Rattle.nob_dispatch.specs.declared.errand.Return.{Return}
+use Rattle.nob_dispatch.specs.KeeperError.{KeeperError}
+use Rattle.nob_dispatch.specs.Ends.{ended, number_in, target_in}
+use Rattle.nob_dispatch.specs.Working.{Working, with_errand, freed, got}
 use Rattle.nob_dispatch.specs.Serving.{Serving, Follows, IsTied, Runs, gives_up, is_memory, numbers, place, place_in, places, returned}
 
 -- the next one is missed, and from then on some are

@@ -3,14 +3,14 @@ use Rattle.std.proofs.Common.{◌≡◌, ℕ, ◌+◌, ◌≤◌, List, [], ◌�
 use Rattle.std.specs.Prelude.{Ok}
 use Rattle.std.proofs.lemmas.List.{reverse-append}
 use Rattle.nob_model_types.specs.declared.answer.Job.{Job}
-use Rattle.nob_dispatch_jobs.specs.declared.dispatcher.Handing.{Handing}
-use Rattle.nob_dispatch_jobs.specs.declared.dispatcher.Handing.TheVariants as handings
-use Rattle.nob_dispatch_jobs.specs.declared.errand.Errand.{Errand}
-use Rattle.nob_dispatch_jobs.specs.declared.shelf.Place.{Place}
-use Rattle.nob_dispatch_jobs.specs.declared.shelf.Place.TheVariants.{Here, Away}
-use Rattle.nob_dispatch_jobs.specs.Ends.{with_job}
-use Rattle.nob_dispatch_jobs.specs.Dispatching.{Dispatching, IsTied, HandsOver, with_handed}
-use Rattle.nob_dispatch_jobs.specs.Shelves.{place_of, with_place}
+use Rattle.nob_dispatch.specs.declared.dispatcher.Handing.{Handing}
+use Rattle.nob_dispatch.specs.declared.dispatcher.Handing.TheVariants as handings
+use Rattle.nob_dispatch.specs.declared.errand.Errand.{Errand}
+use Rattle.nob_dispatch.specs.declared.shelf.Place.{Place}
+use Rattle.nob_dispatch.specs.declared.shelf.Place.TheVariants.{Here, Away}
+use Rattle.nob_dispatch.specs.Ends.{with_job}
+use Rattle.nob_dispatch.specs.Dispatching.{Dispatching, IsTied, HandsOver, with_handed}
+use Rattle.nob_dispatch.specs.Shelves.{place_of, with_place}
 use Rattle.nob_dispatch.specs.Assigning.{jobs}
 
 module _ {O : Type 0} where

@@ -2,3 +2,4 @@ pub mod Follows
 pub mod Givings
 pub mod Crossing
 pub mod Returns
+pub mod Ties

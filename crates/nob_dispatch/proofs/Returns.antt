@@ -2,13 +2,13 @@
 use Rattle.std.proofs.Common.{◌≡◌, ◌≢◌, ℕ, ◌-◌, Bool, List, [], ◌∷◌, ◌++◌, Option, Some, None, refl}
 use Rattle.std.specs.Prelude.{if◌then◌else◌}
 use Rattle.nob_model_types.specs.declared.answer.Job.{Job}
-use Rattle.nob_dispatch_jobs.specs.Dispatching.{Dispatching}
-use Rattle.nob_dispatch_jobs.specs.Dispatching as dispatching
-use Rattle.nob_dispatch_jobs.specs.Shelves.{place_of, with_place, is_away}
-use Rattle.nob_dispatch_jobs.specs.declared.errand.Errand.{Errand}
-use Rattle.nob_dispatch_jobs.specs.declared.errand.Return.{Return}
-use Rattle.nob_dispatch_jobs.specs.declared.shelf.Place.{Place}
-use Rattle.nob_dispatch_jobs.specs.declared.shelf.Place.TheVariants.{Here, Away}
+use Rattle.nob_dispatch.specs.Dispatching.{Dispatching}
+use Rattle.nob_dispatch.specs.Dispatching as dispatching
+use Rattle.nob_dispatch.specs.Shelves.{place_of, with_place, is_away}
+use Rattle.nob_dispatch.specs.declared.errand.Errand.{Errand}
+use Rattle.nob_dispatch.specs.declared.errand.Return.{Return}
+use Rattle.nob_dispatch.specs.declared.shelf.Place.{Place}
+use Rattle.nob_dispatch.specs.declared.shelf.Place.TheVariants.{Here, Away}
 use Rattle.nob_dispatch.specs.Stakes.{Stakes}
 use Rattle.nob_dispatch.specs.Assigning.{with_back}
 

@@ -1,18 +1,18 @@
 -- A dispatcher with the ends of its two lanes. In lists of the errands and objects that ends gave and got the first stands first.
 use Rattle.std.specs.Prelude.{◌≡◌, ◌⊎◌, ◌≤◌, ◌+◌, ◌-◌, ℕ, Bool, true, List, [], ◌∷◌, ◌++◌, length, map, reverse, Option, Some, None, Result, Ok, if◌then◌else◌}
 use Rattle.nob_model_types.specs.declared.answer.Job.{Job}
-use Rattle.nob_dispatch_jobs.specs.KeeperError.{KeeperError}
+use Rattle.nob_dispatch.specs.KeeperError.{KeeperError}
 use Rattle.nob_dispatch.specs.Stakes.{Stakes}
 use Rattle.nob_dispatch.specs.declared.desk.Assigned.{Assigned}
 use Rattle.nob_dispatch.specs.declared.desk.Assigned.TheVariants as answers
-use Rattle.nob_dispatch_jobs.specs.declared.errand.Errand.{Errand}
-use Rattle.nob_dispatch_jobs.specs.declared.errand.Return.{Return}
-use Rattle.nob_dispatch_jobs.specs.declared.shelf.Place.{Place}
-use Rattle.nob_dispatch_jobs.specs.declared.shelf.Place.TheVariants.{Here, Away}
-use Rattle.nob_dispatch_jobs.specs.Ends.{with_job}
-use Rattle.nob_dispatch_jobs.specs.Dispatching.{Dispatching}
-use Rattle.nob_dispatch_jobs.specs.Dispatching as dispatching
-use Rattle.nob_dispatch_jobs.specs.Shelves.{place_of, with_place, is_away}
+use Rattle.nob_dispatch.specs.declared.errand.Errand.{Errand}
+use Rattle.nob_dispatch.specs.declared.errand.Return.{Return}
+use Rattle.nob_dispatch.specs.declared.shelf.Place.{Place}
+use Rattle.nob_dispatch.specs.declared.shelf.Place.TheVariants.{Here, Away}
+use Rattle.nob_dispatch.specs.Ends.{with_job}
+use Rattle.nob_dispatch.specs.Dispatching.{Dispatching}
+use Rattle.nob_dispatch.specs.Dispatching as dispatching
+use Rattle.nob_dispatch.specs.Shelves.{place_of, with_place, is_away}
 
 -- a desk, as contracts see it
 pub record Assigning (O : Type 0) : Type 0 where

@@ -1,9 +1,9 @@
-pub use Rattle.nob_dispatch_jobs.specs.Shelves
-pub use Rattle.nob_dispatch_jobs.specs.Ends
-pub use Rattle.nob_dispatch_jobs.specs.Working
-pub use Rattle.nob_dispatch_jobs.specs.Dispatching
-pub use Rattle.nob_dispatch_jobs.specs.declared.shelf.Place
-pub use Rattle.nob_dispatch_jobs.specs.declared.errand.Return
+pub use Rattle.nob_kept.specs.declared.error.KeeperError
+pub mod Shelves
+pub mod Ends
+pub mod Working
+pub mod Telling
+pub mod Dispatching
 pub mod Stakes
 pub mod Serving
 pub mod Assigning

@@ -4,12 +4,12 @@ use Rattle.nob_model_types.specs.declared.answer.Job.{Job}
 use Rattle.nob_dispatch_lanes.specs.declared.ends.LanePut.{LanePut}
 use Rattle.nob_dispatch_lanes.specs.declared.ends.LaneTake.{LaneTake}
 use Rattle.nob_dispatch_lanes.specs.Ends.{given_by, got_by}
-use Rattle.nob_dispatch_jobs.specs.KeeperError.{KeeperError}
-use Rattle.nob_dispatch_jobs.specs.KeeperError.TheVariants as errors
-use Rattle.nob_dispatch_jobs.specs.declared.errand.Errand.{Errand}
-use Rattle.nob_dispatch_jobs.specs.declared.errand.Return.{Return}
-use Rattle.nob_dispatch_jobs.specs.Ends.{ended, with_job}
-use Rattle.nob_dispatch_jobs.specs.Working.{Working, with_errand}
+use Rattle.nob_dispatch.specs.KeeperError.{KeeperError}
+use Rattle.nob_dispatch.specs.KeeperError.TheVariants as errors
+use Rattle.nob_dispatch.specs.declared.errand.Errand.{Errand}
+use Rattle.nob_dispatch.specs.declared.errand.Return.{Return}
+use Rattle.nob_dispatch.specs.Ends.{ended, with_job}
+use Rattle.nob_dispatch.specs.Working.{Working, with_errand}
 use Rattle.nob_dispatch.specs.Stakes.{Stakes}
 use Rattle.nob_dispatch.specs.declared.hand.Deed.{Deed}
 use Rattle.nob_dispatch.specs.declared.hand.Deed.TheVariants as deeds

@@ -2,8 +2,8 @@
 use Rattle.nob_dispatch_lanes.specs.declared.ends.LanePut.{LanePut}
 use Rattle.nob_dispatch_lanes.specs.declared.ends.LaneTake.{LaneTake}
 use Rattle.nob_dispatch_lanes.specs.Ends.{Stake, stake_of}
-use Rattle.nob_dispatch_jobs.specs.declared.errand.Errand.{Errand}
-use Rattle.nob_dispatch_jobs.specs.declared.errand.Return.{Return}
+use Rattle.nob_dispatch.specs.declared.errand.Errand.{Errand}
+use Rattle.nob_dispatch.specs.declared.errand.Return.{Return}
 
 -- the stakes of two ends: in the lane of errands, and in the lane that their objects go back by
 pub record Stakes (O : Type 0) : Type 0 where

@@ -4,25 +4,26 @@ ghost use Rattle.std.specs.Prelude.{◌≡◌, ◌≢◌, ◌<◌, [], List, Som
 ghost use Rattle.nob_dispatch.specs.Assigning as assigning;
 ghost use Rattle.nob_dispatch.specs.Stakes as ends;
 ghost use Rattle.nob_model_types.specs.declared.answer.Job.{Job as JobOf};
-ghost use Rattle.nob_dispatch_jobs.specs.Dispatching as dispatching;
-ghost use Rattle.nob_dispatch_jobs.specs.Ends.{claimed};
+ghost use Rattle.nob_dispatch.specs.Dispatching as dispatching;
+ghost use Rattle.nob_dispatch.specs.Ends.{claimed};
 ghost use Rattle.nob_dispatch.specs.Serving as serving;
-ghost use Rattle.nob_dispatch_jobs.specs.Shelves as shelves;
-ghost use Rattle.nob_dispatch_jobs.specs.declared.shelf.Place.TheVariants.{Here, Away};
+ghost use Rattle.nob_dispatch.specs.Shelves as shelves;
+ghost use Rattle.nob_dispatch.specs.declared.shelf.Place.TheVariants.{Here, Away};
 
-use nob_dispatch_jobs::{
-    AddError, Dispatcher, Errand, Handing, JobCalls, KeeperError, Place, Remaining, Return, Seat,
-    Shelf,
-};
+use crate::calls::JobCalls;
+use crate::dispatcher::{Dispatcher, Handing, Remaining};
+use crate::errand::{Errand, Return};
+use crate::shelf::{AddError, Place, Shelf};
 use nob_dispatch_lanes::{LanePut, LaneTake, MOST_ERRANDS};
 use nob_dispatch_objects::Object;
+use nob_keeper::{KeeperError, Seat};
 use nob_model_types::Job;
 use std::alloc::Global;
 use std::marker::Model;
 use std::sync::Wait;
 
-/// So many objects are away at a time at most: a lane that holds 1,024 is never full.
-pub const MOST_AWAY: u64 = 512;
+/// The maximum number of objects that are away at a time: half of what a lane holds, so that giving never waits.
+pub const MAX_AWAY: u64 = 512;
 
 /// What a desk did in a turn.
 #[derive(Clone, Copy, Debug, PartialEq, Eq)]
@@ -46,7 +47,7 @@ pub struct Desk<O: Object> {
     dispatcher: Dispatcher<O>,
     errands: LanePut<Errand<O>>,
     returns: LaneTake<Return<O>>,
-    // So many objects were given and haven't come back.
+    // How many objects were given and haven't come back.
     away: u64,
     // The job of the errand that couldn't be given, since nobody gets any more.
     unsent: Option<Job>,
@@ -196,7 +197,7 @@ impl<O: Object> Desk<O> {
         if self.unsent.is_some() {
             return Ok(Assigned::Idle);
         }
-        if self.away >= MOST_AWAY {
+        if self.away >= MAX_AWAY {
             return Ok(Assigned::Later);
         }
         self.hand_on(rt, keeper)

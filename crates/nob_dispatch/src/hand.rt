@@ -4,11 +4,15 @@ ghost use Rattle.std.specs.Prelude.{◌≡◌, ◌≢◌, [], ℕ, List, Some, N
 ghost use Rattle.nob_dispatch.specs.Serving as serving;
 ghost use Rattle.nob_dispatch.specs.Stakes as ends;
 ghost use Rattle.nob_dispatch_lanes.specs.Ends.{stake_of};
-ghost use Rattle.nob_dispatch_jobs.specs.Working as working;
+ghost use Rattle.nob_dispatch.specs.Working as working;
 
-use nob_dispatch_jobs::{Errand, Gate, JobCalls, KeeperError, Progress, Return, Seat, Worker};
+use crate::calls::JobCalls;
+use crate::errand::{Errand, Return};
+use crate::gate::Gate;
+use crate::worker::{Progress, Worker};
 use nob_dispatch_lanes::{LanePut, LaneTake};
 use nob_dispatch_objects::Object;
+use nob_keeper::{KeeperError, Seat};
 use std::marker::Model;
 use std::sync::Wait;
 

@@ -2,19 +2,21 @@
 
 ghost use Rattle.std.specs.Prelude.{◌≡◌, None};
 
+use crate::calls::JobCalls;
+use crate::gate::Gate;
 use crate::hand::{Deed, Hand, is_memory};
-use nob_dispatch_jobs::{Gate, JobCalls};
 use nob_dispatch_objects::Object;
 use std::sync::Wait;
 use std::sync::atomic::AtomicU64;
 use std::thread;
 use std::time::Duration;
 
-/// So many microseconds a worker's thread rests at first where its job can't be ended yet. Each
-/// further rest is twice as long, up to the longest.
+/// For how many microseconds a worker's thread rests at first where its job can't be ended yet. Each
+/// further rest is twice as long.
 const FIRST_REST: u64 = 20;
 
-const LONGEST_REST: u64 = 1000;
+/// For how many it rests at most.
+const MAX_REST: u64 = 1000;
 
 /// Gets errands and carries them out, until none comes any more. K2 is tried again; after any other
 /// error of the keeper each errand that the hand has or still gets is given up: its object goes
@@ -70,5 +72,5 @@ pub fn carry_out<O: Object, R: Wait, C: JobCalls, G: Gate>(
 fn after_rest<R: Wait>(rt: &R, rest: u64) -> u64 {
     let nothing = AtomicU64::new(0);
     nothing.park_timeout(rt, 0, Duration::from_micros(rest));
-    rest.saturating_mul(2).min(LONGEST_REST)
+    rest.saturating_mul(2).min(MAX_REST)
 }

@@ -8,7 +8,7 @@ use crate::waking::Wakes;
 use nob_ids::CallNo;
 use std::alloc::{AllocError, Global};
 
-/// So many places to wait at for replies: calls whose numbers differ by less wait apart.
+/// The number of places to wait at for replies: calls whose numbers differ by less wait apart.
 pub(crate) const REPLY_PLACES: usize = 32;
 
 // The place at which one waits for the reply to a call.

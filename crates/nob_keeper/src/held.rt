@@ -48,8 +48,8 @@ pub struct Chores {
     pub care: bool,
 }
 
-/// So many spaces there are at most.
-const MOST_SPACES: usize = 32;
+/// The number of spaces in the largest world.
+const MAX_SPACES: usize = 32;
 
 /// What a space would transmit to each peer, read under the lock.
 #[derive(Clone, Copy, Debug, PartialEq, Eq)]
@@ -57,7 +57,7 @@ pub struct Dues {
     /// How many entries the trace had.
     pub place: u64,
     /// At place p - 1: what a Transmit to space p would give.
-    pub due: [Due; MOST_SPACES],
+    pub due: [Due; MAX_SPACES],
 }
 
 /// Why a wait for something to transmit ended.
@@ -183,7 +183,7 @@ impl Held {
 
     // What the space would transmit to each peer.
     pub(crate) fn dues(&self) -> Dues {
-        let mut due = [Due::Nothing; MOST_SPACES];
+        let mut due = [Due::Nothing; MAX_SPACES];
         let spaces = usize::from(self.kept.n().get());
         for (place, due) in due.iter_mut().enumerate().take(spaces) {
             if let Some(peer) = SpaceId::new(place as u16 + 1) {

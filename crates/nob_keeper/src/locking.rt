@@ -3,7 +3,7 @@
 use crossbeam_utils::Backoff;
 use std::sync::{Mutex, MutexGuard, Wait};
 
-/// So often a thread tries to take a lock before it sleeps.
+/// How often a thread tries to take a lock before it sleeps.
 const TRIES: u32 = 18;
 
 /// Takes a lock that others hold for some microseconds at a time. It is tried for a while, some ten

@@ -1,3 +1,4 @@
 pub mod Collected
 pub mod Coming
 pub mod Objects
+pub mod Outboxes

@@ -4,8 +4,8 @@ use crossbeam_utils::CachePadded;
 use std::sync::Wait;
 use std::sync::atomic::{AtomicBool, AtomicU64, Ordering};
 
-/// So many workers look for an errand at a time; the others sleep.
-const MOST_LOOKERS: u64 = 1;
+/// The maximum number of workers that look for an errand at a time; the others sleep.
+const MAX_LOOKERS: u64 = 1;
 
 /// Workers without a job: some look for an errand, and the others sleep. Who gives an errand wakes one
 /// that sleeps, unless one looks; who took an errand, and leaves others, does so too.
@@ -66,7 +66,7 @@ impl Idlers {
 
     /// Whether as many look as may.
     pub fn is_full(&self) -> bool {
-        self.lookers.load(Ordering::SeqCst) >= MOST_LOOKERS
+        self.lookers.load(Ordering::SeqCst) >= MAX_LOOKERS
     }
 
     /// How often an errand was given. It is read before a try to take one that fails.

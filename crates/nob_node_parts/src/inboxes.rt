@@ -9,11 +9,11 @@ use std::sync::atomic::{AtomicU64, Ordering};
 use std::sync::{Mutex, Wait};
 use std::thread;
 
-/// So often a thread looks for what it waits for before it sleeps.
+/// How often a thread looks for what it waits for before it sleeps.
 const PATIENCE: u32 = 400;
 
-/// So many who came to look since the turn before say that others come soon, and so many after a long
-/// rest.
+/// If this many threads came to look since the turn before (after a usual rest, after a longer one),
+/// others come soon.
 const MANY_COMES: (u64, u64) = (2, 8);
 
 /// What comes over each link of a node. A thread for each takes it, and while threads without work look at the

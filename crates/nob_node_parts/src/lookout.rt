@@ -5,10 +5,10 @@ use std::sync::Wait;
 use std::sync::atomic::{AtomicU64, Ordering};
 use std::time::Duration;
 
-/// So many microseconds the thread of a link rests at most while others look at the links.
+/// For how many microseconds the thread of a link rests at most while others look at the links.
 const REST: u64 = 100;
 
-/// So many where they come to look all the time.
+/// For how many it does where they come to look all the time.
 const LONG_REST: u64 = 500;
 
 /// Threads without work that look at the links while they wait. The thread of a link rests meanwhile: it

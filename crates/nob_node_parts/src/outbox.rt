@@ -1,6 +1,8 @@
 //! What transmits for a node, and ends its links.
 
-ghost use Rattle.std.specs.Prelude.{◌≡◌, ◌<◌, length, vec_len};
+ghost use Rattle.std.specs.Prelude.{◌≡◌, [], true, Some, None, MatchOption};
+ghost use Rattle.nob_node_parts.specs.Outboxes as outboxes;
+ghost use Rattle.nob_node_parts.specs.declared.outbox.Pulse.TheVariants as pulses;
 
 use nob_agents::{Dues, Keeper, KeeperError, Seat, Sender, Step, Turn, Way};
 use nob_link::{Parcel, PutEnd};
@@ -31,7 +33,10 @@ pub enum Pulse {
 
 impl Outbox {
     /// What transmits by a Sender.
-    pub fn new(alloc: Global, sender: Sender<PutEnd>) -> Outbox {
+    pub fn new(alloc: Global, sender: Sender<PutEnd>) -> Outbox
+        ensures sender { result.sender ≡ Some sender }
+        ensures ways { result.ways.items ≡ [] }
+    {
         Outbox {
             sender: Some(sender),
             seat: None,
@@ -42,7 +47,9 @@ impl Outbox {
 
     /// Transmits what is new: whether nothing was, so that nothing new is left. What fails is done
     /// by a later turn.
-    pub fn flush<R: Wait>(&mut self, rt: &R, keeper: &Keeper) -> bool {
+    pub fn flush<R: Wait>(&mut self, rt: &R, keeper: &Keeper) -> bool
+        ensures sealed { self.old.sender ≡ None → (result ≡ true) × (self.new ≡ self.old) }
+    {
         let Some(sender) = &mut self.sender else {
             return true;
         };
@@ -54,7 +61,10 @@ impl Outbox {
     }
 
     /// A turn of the Sender: what came of it, by what the keeper said before.
-    pub fn turn<R: Wait>(&mut self, rt: &R, keeper: &Keeper, dues: &Dues) -> Pulse {
+    pub fn turn<R: Wait>(&mut self, rt: &R, keeper: &Keeper, dues: &Dues) -> Pulse
+        ensures sealed { self.old.sender ≡ None
+            → (result ≡ pulses.Done) × (self.new ≡ self.old) }
+    {
         let Some(sender) = &mut self.sender else {
             return Pulse::Done;
         };
@@ -76,7 +86,11 @@ impl Outbox {
     }
 
     /// Transmits no more: the Sender ends, and the ways are left.
-    pub fn seal(&mut self) {
+    pub fn seal(&mut self)
+        ensures closed { self.new.sender ≡ None }
+        ensures seat { outboxes.seat_in self.new ≡ outboxes.seat_in self.old }
+        ensures ways { outboxes.ways_in self.new ≡ outboxes.ways_in self.old }
+    {
         if let Some(sender) = self.sender.take() {
             let (seat, ways) = sender.end();
             self.seat = Some(seat);
@@ -85,13 +99,21 @@ impl Outbox {
     }
 
     /// Lets all ways go, with the ends of their links.
-    pub fn give_up(&mut self) {
+    pub fn give_up(&mut self)
+        ensures closed { self.new.sender ≡ None }
+        ensures seat { outboxes.seat_in self.new ≡ outboxes.seat_in self.old }
+        ensures ways { outboxes.ways_in self.new ≡ [] }
+    {
         self.seal();
         self.ways.clear();
     }
 
     /// Ends the ways, as far as the links have room: whether none is left.
-    pub fn put_ends<R: Wait>(&mut self, rt: &R) -> bool {
+    pub fn put_ends<R: Wait>(&mut self, rt: &R) -> bool
+        ensures closed { self.new.sender ≡ None }
+        ensures seat { outboxes.seat_in self.new ≡ outboxes.seat_in self.old }
+        ensures ended { result ≡ true → outboxes.ways_in self.new ≡ [] }
+    {
         self.seal();
         for _ in rt.forever() {
             let Some(mut way) = self.ways.pop() else {
@@ -112,7 +134,9 @@ impl Outbox {
     }
 
     /// Its seat, once no more is transmitted.
-    pub fn into_seat(self) -> Option<Seat> {
+    pub fn into_seat(self) -> Option<Seat>
+        ensures { result ≡ outboxes.seat_in self }
+    {
         let Outbox { sender, seat, .. } = self;
         match sender {
             Some(sender) => {

@@ -6,7 +6,7 @@ ghost use Rattle.std.specs.Prelude.{◌≡◌, ◌-◌, false, nat_le, if◌then
 /// after a longer rest more has to have happened for that.
 #[derive(Clone, Copy, Debug, Drop)]
 pub struct Pace {
-    // So much is much after a usual rest, and after a longer one.
+    // How much is much after a usual rest, and after a longer one.
     much: u64,
     much_in_long: u64,
     // How much had happened at the last look, and whether it was much.

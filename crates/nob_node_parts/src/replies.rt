@@ -7,8 +7,8 @@ use crossbeam_utils::CachePadded;
 use nob_model_types::{Answer, Event};
 use std::sync::atomic::{AtomicU64, Ordering};
 
-/// So many bytes an item has at most that is no call and no reply.
-const LONGEST_NOTE: usize = 9;
+/// The longest note, in bytes: a note is an item that is no call and no reply.
+const MAX_NOTE: usize = 9;
 
 /// Counts of the items that came to a node and may be replies: all but notes.
 #[derive(Drop)]
@@ -80,7 +80,7 @@ pub fn coming_by(event: &Event, answer: &Answer) -> Coming
     match event {
         Event::Call { .. } => Coming::Called,
         Event::Arrive(frame) => {
-            if has_accepted(answer) && frame.payload.len() > LONGEST_NOTE {
+            if has_accepted(answer) && frame.payload.len() > MAX_NOTE {
                 return Coming::Came;
             }
             Coming::Nothing

@@ -15,7 +15,7 @@ pub enum Sleep {
     Short,
     /// It is out for a moment.
     Usual,
-    /// So much happens that what is out is answered before the thread could look.
+    /// What is out is answered before the thread could look, since much happens.
     Long,
 }
 

@@ -10,11 +10,11 @@ use nob_ids::{Limits, SpaceId};
 use nob_keeper::Keep;
 use nob_link::{PutEnd, TakeEnd};
 
-/// So many spaces there are at most.
-const MOST_SPACES: u16 = 32;
+/// The number of spaces in the largest world.
+const MAX_SPACES: u16 = 32;
 
-/// So many workers a node has at most.
-const MOST_WORKERS: usize = 16;
+/// The maximum number of workers of a node.
+const MAX_WORKERS: usize = 16;
 
 /// How a node runs.
 #[derive(Clone, Copy, Debug)]
@@ -51,10 +51,10 @@ impl Config {
             × (config.pause ≡ pause) × (config.tick_every ≡ tick_every)
             × (config.keep ≡ keeps.All)) }
     {
-        if n == 0 || n > MOST_SPACES || space.get() > n {
+        if n == 0 || n > MAX_SPACES || space.get() > n {
             return None;
         }
-        if workers == 0 || workers > MOST_WORKERS {
+        if workers == 0 || workers > MAX_WORKERS {
             return None;
         }
         Some(Config {
@@ -99,6 +99,23 @@ impl Config {
         ensures { (result ≡ true) ↔ (limits ≡ self.now.limits) }
     {
         limits.window == self.limits.window && limits.retry == self.limits.retry
+    }
+
+    /// Whether another node would run the same.
+    pub fn is_same(&self, other: &Config) -> bool
+        ensures { (result ≡ true) ↔ ((self.now.space ≡ other.now.space)
+            × (self.now.n ≡ other.now.n) × (self.now.limits ≡ other.now.limits)
+            × (self.now.workers ≡ other.now.workers) × (self.now.pause ≡ other.now.pause)
+            × (self.now.tick_every ≡ other.now.tick_every)
+            × (self.now.keep ≡ other.now.keep)) }
+    {
+        self.space == other.space
+            && self.n == other.n
+            && other.has_limits(self.limits)
+            && self.workers == other.workers
+            && self.pause == other.pause
+            && self.tick_every == other.tick_every
+            && self.keep == other.keep
     }
 
     /// What the node keeps of its entries.

@@ -21,7 +21,7 @@ use nob_node_parts::{Inbox, Kept, Outbox};
 use std::alloc::Global;
 use std::sync::Mutex;
 
-/// So many errands, and so many objects on their way back, a node's lanes hold.
+/// How many errands, and how many objects on their way back, the lanes of a node hold.
 const LANE: usize = 1024;
 
 /// What the threads of a node share, and what each has of its own. Two ends to one peer: the second

@@ -7,12 +7,12 @@ use nob_node_jobs::{Gate, Hand, carry_out};
 use nob_node_parts::{Kept, Pace, Pulse, Sleep};
 use std::sync::Wait;
 
-/// So many times running the thread that transmits again what is out sleeps shortly, while nothing
+/// How many times running the thread that transmits again what is out sleeps shortly, while nothing
 /// happens.
 const SHORT_RESTS: u32 = 64;
 
-/// So many entries since the turn before say that what is out is answered, and so many after a long
-/// rest.
+/// If there are this many entries since the turn before (after a usual rest, after a longer one), what
+/// is out is answered.
 const MANY_ENTRIES: (u64, u64) = (24, 200);
 
 /// Takes what comes over the link of a place, until nothing comes any more.

@@ -10,10 +10,10 @@ use Rattle.nob_keeper.proofs.Crossing.{record_send}
 use Rattle.nob_node.proofs.Crossing.{left_send}
 use Rattle.nob_node.proofs.error.NodeError.TheSendSync as node_error
 use Rattle.nob_node.specs.contracts.running.Report as Report
-use Rattle.nob_nodes.proofs.start.Start.TheSendSync as start
+use Rattle.nob_nodes.proofs.launch.Launch.TheSendSync as launch
 use Rattle.nob_nodes.specs.contracts.player.Played as Played
 use Rattle.nob_nodes.specs.contracts.running.Post as Post
-use Rattle.nob_nodes.specs.contracts.start.Start as Start
+use Rattle.nob_nodes.specs.contracts.launch.Launch as Launch
 
 pair_send : (R S : RattleType) → IsSend R → IsSend S → IsSend (Tuple (R ∷ S ∷ []))
 pair_send R S one other =
@@ -26,8 +26,8 @@ module _ (O : RattleType) (crossing : IsSend O) (A : RattleType) (crosses_too : 
       let T = Report.the_type O in
       recorded_send (Struct (shape T)) T.D T.to T.to_one (struct_send (shape T) (record_send, (Vec-send _ (left_send O crossing), tt)))
 
-  turn_send : IsSend (Tuple (Start.the_row ∷ A ∷ []))
-  turn_send = pair_send Start.the_row A start.the_send crosses_too
+  turn_send : IsSend (Tuple (Launch.the_row ∷ A ∷ []))
+  turn_send = pair_send Launch.the_row A launch.the_send crosses_too
 
   pub played_send : IsSend (Played.the_row O A)
   played_send =

@@ -3,14 +3,15 @@
 #![tactic(auto)]
 
 mod beside;
+mod launch;
+mod layout;
 mod meeting;
 mod nodes;
 mod player;
 mod running;
-mod shape;
-mod start;
 
 pub use beside::{Beside, Nobody};
+pub use layout::Layout;
 pub use meeting::{Company, Meeting};
 pub use nob_node::{
     Hold, Keep, KeeperError, Left, Node, NodeError, OpenGate, PeerTally, Record, Report, Returned,
@@ -19,5 +20,3 @@ pub use nob_node::{
 pub use nodes::Nodes;
 pub use player::{Played, Player};
 pub use running::run_nodes;
-pub use shape::Shape;
-pub use start::Start;

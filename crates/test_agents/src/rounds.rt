@@ -9,7 +9,7 @@ use std::alloc::Global;
 use std::sync::Wait;
 
 /// So many rounds are made at most where nothing is lost.
-const MOST_ROUNDS: u32 = 200;
+const MAX_ROUNDS: u32 = 200;
 
 /// What came of a run.
 #[derive(Clone, Copy, Debug, PartialEq, Eq)]
@@ -63,7 +63,7 @@ fn left_alone<R: Wait>(rt: &R, alloc: Global, one: &Keeper, other: &Keeper) -> O
         return Some(false);
     }
     drop(theirs);
-    for _ in 0..MOST_ROUNDS {
+    for _ in 0..MAX_ROUNDS {
         ours.round(rt, one)?;
         if ours.has_withdrawn() {
             return Some(true);
@@ -83,9 +83,9 @@ fn between<R: Wait>(
     let (mut ours, mut theirs) = agents_of_both(alloc, one, other, loss)?;
     begin(rt, one, &mut ours)?;
     let most = if loss == 0 {
-        MOST_ROUNDS
+        MAX_ROUNDS
     } else {
-        50 * MOST_ROUNDS
+        50 * MAX_ROUNDS
     };
     for _ in 0..most {
         ours.round(rt, one)?;

@@ -12,7 +12,7 @@ use std::sync::atomic::{AtomicBool, Ordering};
 use std::thread::{self, Threads};
 
 /// So many rounds the first space makes at most.
-const MOST_ROUNDS: u32 = 1_000_000;
+const MAX_ROUNDS: u32 = 1_000_000;
 
 /// What came of a run in two threads.
 #[derive(Clone, Copy, Debug, PartialEq, Eq)]
@@ -83,7 +83,7 @@ fn until_withdrawn<R: Wait>(rt: &R, keeper: &Keeper, ends: Ends) -> Option<Left>
     let alloc = ends.alloc;
     let mut agents = agents_of(keeper, SpaceId::new(2)?, ends)?;
     begin(rt, keeper, &mut agents)?;
-    for _ in 0..MOST_ROUNDS {
+    for _ in 0..MAX_ROUNDS {
         agents.round(rt, keeper)?;
         if agents.has_withdrawn() {
             break;

@@ -8,7 +8,7 @@ use nob_model_types::Refusal;
 use nob_pickle::{Bytes, Value, Values};
 use std::alloc::Global;
 
-/// So many names an agent has at most.
+/// The maximum number of names of an agent.
 const MOST: u16 = 1024;
 
 /// All lines.

@@ -7,7 +7,7 @@ use std::io;
 /// What is said of a row.
 #[derive(Clone, Copy, Debug, PartialEq, Eq)]
 pub(crate) enum Said {
-    /// So many.
+    /// How many.
     Count(u64),
     /// A status with unit.
     Unit(u8),

@@ -16,7 +16,7 @@ use nob_pickle::Value;
 use std::alloc::Global;
 use std::sync::Wait;
 
-/// So many errands, and so many objects on their way back, a lane holds.
+/// How many errands, or objects on their way back, a lane holds.
 const LANE: usize = 4;
 
 /// How much a pool left in its lanes when it ended.

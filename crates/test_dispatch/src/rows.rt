@@ -11,10 +11,10 @@ use nob_pickle::{Bytes, Value, Values};
 use std::alloc::Global;
 use std::sync::Wait;
 
-/// So many rounds are made for replies.
+/// How many rounds are made for replies.
 const ROUNDS: u32 = 40;
 
-/// So many turns a dispatcher has for the job that it can't end yet: it is claimed in the first, and its
+/// How many turns a dispatcher has for the job that it can't end yet: it is claimed in the first, and its
 /// object looked for in the second.
 const TURNS: u32 = 5;
 
@@ -22,7 +22,7 @@ const TURNS: u32 = 5;
 const TURNS_TO_CLAIM: u32 = 3;
 
 /// More calls than a session has room for.
-const MOST_CALLS: u32 = 5000;
+const MAX_CALLS: u32 = 5000;
 
 /// The staff of both spaces.
 #[derive(Drop)]
@@ -341,7 +341,7 @@ pub(crate) fn ask<R: Wait>(
 
 // Makes calls of the first space's agent until one is refused: the session has no room for another.
 fn fill<R: Wait>(rt: &R, polled: &Polled, staff: &mut Staff) {
-    for _ in 0..MOST_CALLS {
+    for _ in 0..MAX_CALLS {
         let Some(target) = reference(1, 0) else {
             return;
         };

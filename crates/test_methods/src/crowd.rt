@@ -7,17 +7,17 @@ use crate::tally::{counted, remains_of, say_end};
 use crate::thing::Thing;
 use nob_ids::SpaceId;
 use nob_node::{Hold, Keep, Node};
-use nob_nodes::{Company, Nobody, Nodes, Player, Shape, run_nodes};
+use nob_nodes::{Company, Layout, Nobody, Nodes, Player, run_nodes};
 use nob_pickle::Value;
 use nob_two_nodes::{give_back, look_up, offer};
 use std::alloc::Global;
 use std::sync::Wait;
 use std::thread::Threads;
 
-/// So many objects are called, each by as many callers.
+/// How many objects are called, each by as many callers.
 const COUNTERS: u16 = 16;
 
-/// So many calls each caller makes.
+/// How many calls each caller makes.
 const CALLS: usize = 625;
 
 /// An application: that of space 1 has the objects.
@@ -81,9 +81,9 @@ impl Player<Thing> for Member {
 /// Plays the scene: what it says. `None` where memory is wanted, or a thread can't be made.
 pub(crate) fn play<R: Threads + Wait + Sync>(rt: &R, alloc: Global) -> Option<Vec<Row>> {
     let owner = SpaceId::new(1)?;
-    let mut shape = Shape::new(Keep::All);
-    shape.workers = 4;
-    let mut nodes = Nodes::new(alloc, shape, COUNTERS + 1)?;
+    let mut layout = Layout::new(Keep::All);
+    layout.workers = 4;
+    let mut nodes = Nodes::new(alloc, layout, COUNTERS + 1)?;
     let mut members = Vec::new(alloc);
     for number in 1..=COUNTERS + 1 {
         if number > 1 {

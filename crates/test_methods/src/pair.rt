@@ -8,7 +8,7 @@ use crate::thing::{Holder, Odd, Relay, Thing};
 use crate::values::{bytes_of, named};
 use nob_ids::{SpaceId, WireRep};
 use nob_node::{Hold, Keep, Node};
-use nob_nodes::{Company, Nobody, Nodes, Player, Shape, run_nodes};
+use nob_nodes::{Company, Layout, Nobody, Nodes, Player, run_nodes};
 use nob_pickle::Value;
 use nob_two_nodes::{look_up, offer};
 use std::alloc::Global;
@@ -179,7 +179,7 @@ fn withdrawn_at<R: Wait>(rt: &R, node: &mut Node<Thing>) -> Option<WireRep> {
 
 /// Plays the scene: what it says. `None` where memory is wanted, or a thread can't be made.
 pub(crate) fn play<R: Threads + Wait + Sync>(rt: &R, alloc: Global) -> Option<Vec<Row>> {
-    let nodes = Nodes::linked(alloc, Shape::new(Keep::All), 2)?;
+    let nodes = Nodes::linked(alloc, Layout::new(Keep::All), 2)?;
     let mut actors = Vec::with_capacity(alloc, 2).ok()?;
     for part in [Part::Calls, Part::Owns] {
         let actor = Actor {

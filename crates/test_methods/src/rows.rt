@@ -7,7 +7,7 @@ use nob_pickle::Value;
 pub(crate) enum Said {
     /// Whether it is so.
     Is(bool),
-    /// So many.
+    /// How many.
     Count(u64),
     /// A status with unit.
     Unit(u8),

@@ -10,7 +10,7 @@ pub(crate) fn bytes_of(alloc: Global, bytes: &[u8]) -> Option<Value> {
     Some(Value::Bytes(Bytes::from_slice(alloc, bytes).ok()?))
 }
 
-// So many bytes. Only memory fails it.
+// A value of as many bytes. Only memory fails it.
 pub(crate) fn long_bytes(alloc: Global, length: usize) -> Option<Value> {
     let bytes = vec![in alloc; 0; length].ok()?;
     Some(Value::Bytes(Bytes::from_vec(bytes)))

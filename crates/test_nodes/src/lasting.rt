@@ -4,19 +4,16 @@ use crate::calling::{Refusals, Said, found, give_back, offer, said_by};
 use crate::thing::Thing;
 use nob_node::{Hold, Node, Record};
 use nob_pickle::Value;
-use nob_two_nodes::{Partner, Player, run_two};
+use nob_two_nodes::{Company, Played, Player, partner_of, run_two};
 use std::alloc::Global;
 use std::sync::Wait;
 use std::thread::Threads;
 
-/// So many calls are made.
+/// How many calls are made.
 const CALLS: u64 = 20_000;
 
 /// Each node makes more entries than this: five for each call.
 const ENTRIES: u64 = 60_000;
-
-/// How often both applications meet.
-const MEETINGS: u32 = 2;
 
 /// The name of the object that is called.
 const NAME: &[u8] = b"one";
@@ -48,10 +45,10 @@ struct Owner {
 
 impl Player<Thing> for Owner {
     // Has the object until it was called, and waits until it is withdrawn.
-    fn run<R: Wait>(&mut self, rt: &R, node: &mut Node<Thing>, partner: &mut Partner) {
+    fn run<R: Wait>(&mut self, rt: &R, node: &mut Node<Thing>, company: &Company) {
         let hold = offer(rt, node, &mut self.refusals, NAME, Thing::Counter(0));
-        partner.meet(rt);
-        partner.meet(rt);
+        company.meet(rt);
+        company.meet(rt);
         let Some(hold) = hold else {
             return;
         };
@@ -89,12 +86,12 @@ impl Caller {
 
 impl Player<Thing> for Caller {
     // Looks the object up, calls it so often, and gives it back.
-    fn run<R: Wait>(&mut self, rt: &R, node: &mut Node<Thing>, partner: &mut Partner) {
-        partner.meet(rt);
-        let hold = found(rt, node, &mut self.refusals, partner.space(), NAME).ok();
+    fn run<R: Wait>(&mut self, rt: &R, node: &mut Node<Thing>, company: &Company) {
+        company.meet(rt);
+        let hold = found(rt, node, &mut self.refusals, partner_of(company), NAME).ok();
         self.call_each(rt, node, &hold);
         give_back(rt, node, &mut self.refusals, hold);
-        partner.meet(rt);
+        company.meet(rt);
     }
 }
 
@@ -110,8 +107,11 @@ struct Numbers {
 }
 
 // What is left of a node that kept nothing, one of two.
-fn numbers_of(record: &Record) -> Option<Numbers> {
-    let Record::Summary(summary) = record else {
+fn numbers_of<A: Drop>(played: &Played<Thing, A>) -> Option<Numbers> {
+    let Ok(report) = &played.left else {
+        return None;
+    };
+    let Record::Summary(summary) = &report.record else {
         return None;
     };
     let [session] = summary.peers.as_slice() else {
@@ -136,9 +136,9 @@ pub(crate) fn play_lasting<R: Threads + Wait + Sync>(rt: &R, alloc: Global) -> O
         answered: 0,
         last: 0,
     };
-    let (there, here) = run_two(rt, alloc, MEETINGS, owner, caller)?;
-    let owned = numbers_of(&there.report.record)?;
-    let called = numbers_of(&here.report.record)?;
+    let (there, here) = run_two(rt, alloc, owner, caller)?;
+    let owned = numbers_of(&there)?;
+    let called = numbers_of(&here)?;
     Some(Lasted {
         answered: here.player.answered,
         last: here.player.last,

@@ -7,13 +7,10 @@ use nob_ids::SpaceId;
 use nob_model_types::Refusal;
 use nob_node::{Keep, Node, NodeError, Report};
 use nob_pickle::Value;
-use nob_two_nodes::{Partner, Played, Player, run_two_keeping};
+use nob_two_nodes::{Company, Played, Player, partner_of, run_two_keeping};
 use std::alloc::Global;
 use std::sync::Wait;
 use std::thread::Threads;
-
-/// How often both applications meet.
-const MEETINGS: u32 = 5;
 
 /// The name of the object that is called.
 const NAME: &[u8] = b"one";
@@ -43,17 +40,17 @@ impl Reopened {
     }
 
     // Closes the session, and opens it once both have.
-    fn reopen<R: Wait>(&mut self, rt: &R, node: &mut Node<Thing>, partner: &mut Partner) {
-        let peer = partner.space();
+    fn reopen<R: Wait>(&mut self, rt: &R, node: &mut Node<Thing>, company: &Company) {
+        let peer = partner_of(company);
         self.was_open = is_refused(node.open(rt, peer), Refusal::StillOpen);
-        partner.meet(rt);
+        company.meet(rt);
         self.is_closed = match node.close(rt, peer) {
             Ok(()) => true,
             Err(error) => error == NodeError::Refused(Refusal::Closed),
         };
-        partner.meet(rt);
+        company.meet(rt);
         self.number = self.refusals.answered(node.open(rt, peer));
-        partner.meet(rt);
+        company.meet(rt);
     }
 }
 
@@ -73,12 +70,12 @@ struct Owner {
 
 impl Player<Thing> for Owner {
     // Has the object in both sessions.
-    fn run<R: Wait>(&mut self, rt: &R, node: &mut Node<Thing>, partner: &mut Partner) {
+    fn run<R: Wait>(&mut self, rt: &R, node: &mut Node<Thing>, company: &Company) {
         let thing = Thing::Counter(0);
         let hold = offer(rt, node, &mut self.reopened.refusals, NAME, thing);
-        partner.meet(rt);
-        self.reopened.reopen(rt, node, partner);
-        partner.meet(rt);
+        company.meet(rt);
+        self.reopened.reopen(rt, node, company);
+        company.meet(rt);
         let refusals = &mut self.reopened.refusals;
         let _ = refusals.answered(node.unbind(rt, NAME));
         give_back(rt, node, refusals, hold);
@@ -96,12 +93,13 @@ struct Caller {
 
 impl Player<Thing> for Caller {
     // Looks the object up in each session, calls it, and gives it back.
-    fn run<R: Wait>(&mut self, rt: &R, node: &mut Node<Thing>, partner: &mut Partner) {
-        partner.meet(rt);
-        self.before = said_once(rt, node, &mut self.reopened.refusals, partner.space());
-        self.reopened.reopen(rt, node, partner);
-        self.after = said_once(rt, node, &mut self.reopened.refusals, partner.space());
-        partner.meet(rt);
+    fn run<R: Wait>(&mut self, rt: &R, node: &mut Node<Thing>, company: &Company) {
+        company.meet(rt);
+        let owner = partner_of(company);
+        self.before = said_once(rt, node, &mut self.reopened.refusals, owner);
+        self.reopened.reopen(rt, node, company);
+        self.after = said_once(rt, node, &mut self.reopened.refusals, owner);
+        company.meet(rt);
     }
 }
 
@@ -141,7 +139,7 @@ pub(crate) fn play_reopening<R: Threads + Wait + Sync>(rt: &R, alloc: Global) ->
         before: Said::Other,
         after: Said::Other,
     };
-    let (there, here) = run_two_keeping(rt, alloc, Keep::All, MEETINGS, owner, caller)?;
+    let (there, here) = run_two_keeping(rt, alloc, Keep::All, owner, caller)?;
     twice_of(alloc, there, here)
 }
 
@@ -151,19 +149,16 @@ fn twice_of(
     there: Played<Thing, Owner>,
     here: Played<Thing, Caller>,
 ) -> Option<Twice> {
-    let Played {
-        player: Owner { reopened: owner },
-        report,
-    } = there;
     let Report {
         record: first,
         objects: _,
-    } = report;
-    let Played { player, report } = here;
+    } = there.left.ok()?;
     let Report {
         record: second,
         objects: _,
-    } = report;
+    } = here.left.ok()?;
+    let owner = there.player.reopened;
+    let player = here.player;
     let caller = player.reopened;
     let refusals = owner.refusals.with(caller.refusals);
     Some(Twice {

@@ -8,7 +8,7 @@ use crate::thing::Thing;
 use crate::verdict::{Outcome, outcome_of};
 use nob_ids::SpaceId;
 use nob_node::{Keep, Report};
-use nob_nodes::{Nodes, Played, Shape, run_nodes};
+use nob_nodes::{Layout, Nodes, Played, run_nodes};
 use std::alloc::Global;
 use std::sync::Wait;
 use std::thread::Threads;
@@ -30,14 +30,14 @@ pub(crate) fn play<R: Threads + Wait + Sync>(
     parts: &[Part],
 ) -> Option<Scene> {
     let count = u16::try_from(parts.len()).ok()?;
-    let nodes = Nodes::linked(alloc, Shape::new(Keep::All), count)?;
+    let nodes = Nodes::linked(alloc, Layout::new(Keep::All), count)?;
     play_all(rt, alloc, nodes, parts, Loose::Nothing)
 }
 
 /// Plays the scene of an application that calls a space to which nobody carries what is sent: the
 /// other ends of its links are let go.
 pub(crate) fn play_alone<R: Threads + Wait + Sync>(rt: &R, alloc: Global) -> Option<Scene> {
-    let mut nodes = Nodes::new(alloc, Shape::new(Keep::All), 2)?;
+    let mut nodes = Nodes::new(alloc, Layout::new(Keep::All), 2)?;
     let (put, take) = nodes.open(SpaceId::new(2)?, SpaceId::new(1)?)?;
     let parts = [Part::Idles, Part::CallsNobody];
     play_all(rt, alloc, nodes, &parts, Loose::One(put, take))
@@ -46,7 +46,7 @@ pub(crate) fn play_alone<R: Threads + Wait + Sync>(rt: &R, alloc: Global) -> Opt
 /// Plays the scene of two applications between whose nodes parcels are carried until a method of
 /// the first is held up, which the second has called: then the ends of the links are let go.
 pub(crate) fn play_cut<R: Threads + Wait + Sync>(rt: &R, alloc: Global) -> Option<Scene> {
-    let mut nodes = Nodes::new(alloc, Shape::new(Keep::All), 2)?;
+    let mut nodes = Nodes::new(alloc, Layout::new(Keep::All), 2)?;
     let first = SpaceId::new(1)?;
     let second = SpaceId::new(2)?;
     let (put, take) = nodes.open(first, second)?;

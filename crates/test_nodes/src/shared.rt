@@ -6,8 +6,8 @@ use std::sync::Wait;
 use std::sync::atomic::{AtomicBool, Ordering};
 use std::thread;
 
-/// So often a job that is held up looks whether it may go on: more than a run takes.
-const MOST_LOOKS: u64 = 1_000_000_000_000;
+/// How often a job that is held up looks whether it may go on: more than a run takes.
+const MAX_LOOKS: u64 = 1_000_000_000_000;
 
 /// What the threads of a scene share. As a gate it holds the next job up, once it is told to.
 #[derive(Drop)]
@@ -83,7 +83,7 @@ impl Gate for Shared {
             return;
         }
         self.is_held.store(true, Ordering::SeqCst);
-        for _ in 0..MOST_LOOKS {
+        for _ in 0..MAX_LOOKS {
             if !self.is_held.load(Ordering::SeqCst) {
                 return;
             }

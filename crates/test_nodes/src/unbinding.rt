@@ -8,13 +8,10 @@ use nob_bytes::Bytes;
 use nob_dispatch_objects::{Agent, Held, Object};
 use nob_node::{Hold, Keep, Node, Report};
 use nob_pickle::Value;
-use nob_two_nodes::{Partner, Played, Player, retire, run_two_keeping};
+use nob_two_nodes::{Company, Played, Player, partner_of, retire, run_two_keeping};
 use std::alloc::Global;
 use std::sync::Wait;
 use std::thread::Threads;
-
-/// How often both applications meet.
-const MEETINGS: u32 = 5;
 
 const COUNTER: &[u8] = b"counter";
 
@@ -70,7 +67,7 @@ impl<B: Object> Owner<B> {
         &mut self,
         rt: &R,
         node: &mut Node<B>,
-        partner: &mut Partner,
+        company: &Company,
         hold: Option<Hold>,
     ) {
         let Some(hold) = hold else {
@@ -78,14 +75,14 @@ impl<B: Object> Owner<B> {
         };
         let index = hold.rep().index;
         let unbound = self.refusals.answered(node.unbind(rt, COUNTER));
-        partner.meet(rt);
-        partner.meet(rt);
+        company.meet(rt);
+        company.meet(rt);
         give_back(rt, node, &mut self.refusals, Some(hold));
         self.seen.while_held = node.live(rt);
-        if let Some(tally) = node.tally(rt, partner.space()) {
+        if let Some(tally) = node.tally(rt, partner_of(company)) {
             self.seen.is_open = tally.closed.is_none();
         }
-        partner.meet(rt);
+        company.meet(rt);
         if unbound.is_some() {
             node.wait_withdrawn(rt, index);
         }
@@ -94,7 +91,7 @@ impl<B: Object> Owner<B> {
 }
 
 impl<B: Object> Player<B> for Owner<B> {
-    fn run<R: Wait>(&mut self, rt: &R, node: &mut Node<B>, partner: &mut Partner) {
+    fn run<R: Wait>(&mut self, rt: &R, node: &mut Node<B>, company: &Company) {
         let Some(objects) = self.objects.take() else {
             return;
         };
@@ -102,9 +99,9 @@ impl<B: Object> Player<B> for Owner<B> {
         let counter = offer(rt, node, refusals, COUNTER, objects.counter);
         let doubler = offer(rt, node, refusals, DOUBLER, objects.doubler);
         let names = offer(rt, node, refusals, NAMES, objects.names);
-        partner.meet(rt);
-        partner.meet(rt);
-        self.unbind(rt, node, partner, counter);
+        company.meet(rt);
+        company.meet(rt);
+        self.unbind(rt, node, company, counter);
         if let Some(doubler) = doubler {
             retire(rt, node, DOUBLER, doubler);
         }
@@ -128,13 +125,13 @@ impl Caller {
         &mut self,
         rt: &R,
         node: &mut Node<B>,
-        partner: &Partner,
+        company: &Company,
         name: &[u8],
         method: u16,
         value: Value,
     ) -> Said {
         let refusals = &mut self.refusals;
-        let hold = found(rt, node, refusals, partner.space(), name).ok();
+        let hold = found(rt, node, refusals, partner_of(company), name).ok();
         let said = said_by(rt, node, refusals, &hold, method, value);
         give_back(rt, node, refusals, hold);
         said
@@ -145,14 +142,14 @@ impl Caller {
         &mut self,
         rt: &R,
         node: &mut Node<B>,
-        partner: &Partner,
+        company: &Company,
         counter: &Option<Hold>,
     ) {
         self.heard.counter = said_by(rt, node, &mut self.refusals, counter, 0, Value::Unit);
-        self.heard.doubler = self.said_once(rt, node, partner, DOUBLER, 0, Value::Int(14));
+        self.heard.doubler = self.said_once(rt, node, company, DOUBLER, 0, Value::Int(14));
         if let Ok(name) = Bytes::from_slice(self.alloc, COUNTER) {
             let name = Value::Bytes(name);
-            self.heard.names = self.said_once(rt, node, partner, NAMES, 1, name);
+            self.heard.names = self.said_once(rt, node, company, NAMES, 1, name);
         }
     }
 
@@ -161,11 +158,11 @@ impl Caller {
         &mut self,
         rt: &R,
         node: &mut Node<B>,
-        partner: &Partner,
+        company: &Company,
         counter: &Option<Hold>,
     ) {
         let refusals = &mut self.refusals;
-        match found(rt, node, refusals, partner.space(), COUNTER) {
+        match found(rt, node, refusals, partner_of(company), COUNTER) {
             Ok(hold) => give_back(rt, node, refusals, Some(hold)),
             Err(said) => self.heard.unbound = said,
         }
@@ -174,15 +171,15 @@ impl Caller {
 }
 
 impl<B: Object> Player<B> for Caller {
-    fn run<R: Wait>(&mut self, rt: &R, node: &mut Node<B>, partner: &mut Partner) {
-        partner.meet(rt);
-        let counter = found(rt, node, &mut self.refusals, partner.space(), COUNTER).ok();
-        self.call_all(rt, node, partner, &counter);
-        partner.meet(rt);
-        partner.meet(rt);
-        self.look_again(rt, node, partner, &counter);
-        partner.meet(rt);
-        partner.meet(rt);
+    fn run<R: Wait>(&mut self, rt: &R, node: &mut Node<B>, company: &Company) {
+        company.meet(rt);
+        let counter = found(rt, node, &mut self.refusals, partner_of(company), COUNTER).ok();
+        self.call_all(rt, node, company, &counter);
+        company.meet(rt);
+        company.meet(rt);
+        self.look_again(rt, node, company, &counter);
+        company.meet(rt);
+        company.meet(rt);
         give_back(rt, node, &mut self.refusals, counter);
         self.heard.receipts = node.receipts().len();
     }
@@ -228,7 +225,7 @@ pub(crate) fn play_unbinding<R: Threads + Wait + Sync>(rt: &R, alloc: Global) ->
         },
         refusals: Refusals::new(),
     };
-    let (there, here) = run_two_keeping(rt, alloc, Keep::All, MEETINGS, owner, caller)?;
+    let (there, here) = run_two_keeping(rt, alloc, Keep::All, owner, caller)?;
     unbound_of(alloc, there, here)
 }
 
@@ -238,22 +235,16 @@ fn unbound_of<B: Object>(
     there: Played<B, Owner<B>>,
     here: Played<B, Caller>,
 ) -> Option<Unbound> {
-    let Played {
-        player: owner,
-        report,
-    } = there;
     let Report {
         record: first,
         objects,
-    } = report;
-    let Played {
-        player: caller,
-        report,
-    } = here;
+    } = there.left.ok()?;
     let Report {
         record: second,
         objects: _,
-    } = report;
+    } = here.left.ok()?;
+    let owner = there.player;
+    let caller = here.player;
     let refusals = owner.refusals.with(caller.refusals);
     Some(Unbound {
         seen: owner.seen,

@@ -9,9 +9,9 @@ use std::alloc::Global;
 /// What is said of the chains of a scene.
 #[derive(Clone, Copy, Debug, PartialEq, Eq)]
 pub(crate) enum Verdict {
-    /// So many chains are together a run of a world, and each seal in them is right.
+    /// As many chains are together a run of a world, and each seal in them is right.
     Accepted(usize),
-    /// So many chains aren't, or a seal isn't.
+    /// As many chains aren't, or a seal isn't.
     Refused(usize),
     /// A node left no chain, or there was no memory.
     Unchecked,

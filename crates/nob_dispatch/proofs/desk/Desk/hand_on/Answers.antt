@@ -1,6 +1,6 @@
 use Rattle.std.proofs.Common.{rules, Some, inl, inr, length, ap, ◌∙◌}
-use Rattle.nob_dispatch_jobs.specs.declared.dispatcher.Handing.TheVariants as handings
-use Rattle.nob_dispatch_jobs.specs.declared.errand.Errand.{Errand}
+use Rattle.nob_dispatch.specs.declared.dispatcher.Handing.TheVariants as handings
+use Rattle.nob_dispatch.specs.declared.errand.Errand.{Errand}
 use Rattle.nob_dispatch.specs.Assigning.{Assigning}
 use Rattle.nob_dispatch.specs.Serving.{given, taken}
 use Rattle.nob_dispatch.proofs.Givings.{given_more, given_none, handed_over, same_handed, counted}

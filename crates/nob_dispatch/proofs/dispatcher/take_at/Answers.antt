@@ -1,0 +1,5 @@
+use Rattle.nob_dispatch.proofs.Ties.{weigh_removed}
+use Rattle.nob_dispatch.proofs.dispatcher.take_at.Goals as goal
+
+pub returns-clause-once : goal.returns-clause-once
+returns-clause-once c = λ weight. weigh_removed weight c.args.place _ _ _ c.requires c.remove.ensures.value c.remove.ensures.items
