@@ -2,7 +2,7 @@
 
 use crate::kind::{Kind, Reference};
 use nob_dispatch_objects::{Done, Outcome};
-use nob_ids::{SpaceId, WireRep};
+use nob_ids::WireRep;
 use nob_pickle::Value;
 
 /// An object whose method 0 calls the object that its argument passes, and answers the status of what
@@ -10,14 +10,15 @@ use nob_pickle::Value;
 /// another in a ring, it calls an object of a space with a higher number alone, and none that calls.
 #[derive(Clone, Copy, Debug, Drop)]
 pub(crate) struct Caller {
-    space: SpaceId,
+    // The number of its space.
+    space: u16,
     // The status of the reply, while a reference in it is given back.
     status: i64,
 }
 
 impl Caller {
-    // One of a space.
-    pub(crate) fn new(space: SpaceId) -> Caller {
+    // One of the space of a number.
+    pub(crate) fn new(space: u16) -> Caller {
         Caller { space, status: 0 }
     }
 
@@ -27,7 +28,7 @@ impl Caller {
             return Outcome::NoMethod;
         };
         let Reference { rep: target, kind } = reference;
-        if target.owner.get() <= self.space.get() || !kind.is_leaf() {
+        if target.owner.get() <= self.space || !kind.is_leaf() {
             return Outcome::Fault(Value::Int(6));
         }
         Outcome::Call {

@@ -21,11 +21,12 @@ pub(crate) fn call_any<R: Wait>(
     let Some(target) = target_by(soaker, pocket) else {
         return;
     };
-    let method = method_of(soaker, target.kind);
+    let Reference { rep, kind } = target;
+    let method = method_of(soaker, kind);
     let fresh = made_for_call(soaker, rt, node);
-    let value = value_by(soaker, target, pocket, reference_in(&fresh));
-    soaker.say(rt, Doing::Calls(target.rep.owner.get()));
-    let called = call_held(rt, node, pocket, target.rep, method, value);
+    let value = value_by(soaker, rep, kind, pocket, reference_in(&fresh));
+    soaker.say(rt, Doing::Calls(rep.owner.get()));
+    let called = call_held(rt, node, pocket, rep, method, value);
     take_returned(soaker, rt, node, pocket, called);
     if let Some(held) = fresh {
         keep_or_give_back(soaker, rt, node, pocket, held);
@@ -75,19 +76,20 @@ fn value_of(soaker: &mut Soaker, reference: Reference) -> Value {
     reference.value(soaker.alloc).unwrap_or(Value::Unit)
 }
 
-// An argument for an object: a reference to a new object, if there is one; else often one that is held, be
+// An argument for an object of a kind: a reference to a new object, if there is one; else often one that is held, be
 // it of this space, of the object's or of a third one; for a caller one that it calls, if there is one.
 fn value_by(
     soaker: &mut Soaker,
-    target: Reference,
+    target: WireRep,
+    kind: Kind,
     pocket: &Pocket,
     fresh: Option<Reference>,
 ) -> Value {
     if let Some(reference) = fresh {
         return value_of(soaker, reference);
     }
-    let found = if target.kind == Kind::Caller {
-        pocket.any_above(&mut soaker.chance, target.rep.owner)
+    let found = if kind == Kind::Caller {
+        pocket.any_above(&mut soaker.chance, target.owner)
     } else {
         None
     };

@@ -37,7 +37,7 @@ pub(crate) fn mend<R: Wait>(soaker: &mut Soaker, rt: &R, node: &mut Node<Thing>)
 // Closes sessions by chance.
 fn close_some<R: Wait>(soaker: &mut Soaker, rt: &R, node: &mut Node<Thing>) {
     for number in 1..=soaker.plan.spaces {
-        if number != soaker.space.get()
+        if number != soaker.space
             && soaker.chance.is_so(soaker.plan.closes)
             && let Some(peer) = SpaceId::new(number)
         {

@@ -24,7 +24,8 @@ const PHASES: u64 = 3;
 pub(crate) struct Soaker<'s> {
     pub(crate) alloc: Global,
     pub(crate) plan: Plan,
-    pub(crate) space: SpaceId,
+    /// The number of its space.
+    pub(crate) space: u16,
     pub(crate) chance: Chance,
     // Where each player says what it does.
     desks: &'s [Desk],
@@ -35,18 +36,18 @@ pub(crate) struct Soaker<'s> {
 }
 
 impl<'s> Soaker<'s> {
-    // The player of a space, who says at its desk of these what it does.
+    // The player of the space of a number, who says at its desk of these what it does.
     pub(crate) fn new(
         alloc: Global,
         plan: Plan,
-        space: SpaceId,
+        space: u16,
         desks: &'s [Desk],
     ) -> Soaker<'s> {
         Soaker {
             alloc,
             plan,
             space,
-            chance: Chance::new(plan.seed, u64::from(space.get())),
+            chance: Chance::new(plan.seed, u64::from(space)),
             desks,
             figures: Figures::new(),
             has_rested: false,
@@ -56,9 +57,14 @@ impl<'s> Soaker<'s> {
 
     // Says what it does.
     pub(crate) fn say<R: Wait>(&self, rt: &R, doing: Doing) {
-        if let Some(desk) = self.desks.get(self.space.place()) {
+        if let Some(desk) = self.desks.get(self.place()) {
             desk.say(rt, doing);
         }
+    }
+
+    // Where it stands among all players.
+    fn place(&self) -> usize {
+        usize::from(self.space).saturating_sub(1)
     }
 
     // Waits for the others.
@@ -71,7 +77,7 @@ impl<'s> Soaker<'s> {
     pub(crate) fn any_peer(&mut self) -> Option<SpaceId> {
         let others = u64::from(self.plan.spaces).saturating_sub(1);
         let drawn = self.chance.below(others).saturating_add(1);
-        let number = if drawn >= u64::from(self.space.get()) {
+        let number = if drawn >= u64::from(self.space) {
             drawn.saturating_add(1)
         } else {
             drawn

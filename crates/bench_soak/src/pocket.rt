@@ -48,11 +48,11 @@ impl Pocket {
         self.held.get(chance.place_in(self.held.len()))
     }
 
-    // One by chance that is of another space, if one is found soon.
-    pub(crate) fn any_of_others(&self, chance: &mut Chance, own: SpaceId) -> Option<&Held> {
+    // One by chance that isn't of the space of a number, if one is found soon.
+    pub(crate) fn any_of_others(&self, chance: &mut Chance, own: u16) -> Option<&Held> {
         for _ in 0..8 {
             if let Some(held) = self.any(chance)
-                && held.hold.rep().owner != own
+                && held.hold.rep().owner.get() != own
             {
                 return Some(held);
             }

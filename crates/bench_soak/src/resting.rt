@@ -69,7 +69,7 @@ pub(crate) fn doze<R: Wait>(rt: &R, micros: u64) {
 // Has the table of each peer that can be reached give back what it keeps.
 pub(crate) fn clear_others<R: Wait>(soaker: &mut Soaker, rt: &R, node: &mut Node<Thing>) {
     for number in 1..=soaker.plan.spaces {
-        if number != soaker.space.get()
+        if number != soaker.space
             && let Some(peer) = SpaceId::new(number)
         {
             clear_at(soaker, rt, node, peer);
@@ -99,7 +99,7 @@ fn clear_at<R: Wait>(soaker: &mut Soaker, rt: &R, node: &mut Node<Thing>, peer: 
 // there, and all that went there before has come.
 pub(crate) fn hear_others<R: Wait>(soaker: &mut Soaker, rt: &R, node: &mut Node<Thing>) {
     for number in 1..=soaker.plan.spaces {
-        if number != soaker.space.get()
+        if number != soaker.space
             && let Some(peer) = SpaceId::new(number)
         {
             hear(soaker, rt, node, peer);

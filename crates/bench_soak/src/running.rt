@@ -41,8 +41,7 @@ fn desks_of(alloc: Global, round: Round) -> Option<Vec<Desk>> {
 fn players_of<'s>(alloc: Global, plan: Plan, desks: &'s [Desk]) -> Option<Vec<Soaker<'s>>> {
     let mut players = Vec::new(alloc);
     for number in 1..=plan.spaces {
-        let space = SpaceId::new(number)?;
-        let player = Soaker::new(alloc, plan, space, desks);
+        let player = Soaker::new(alloc, plan, number, desks);
         players.push(player).ok()?;
     }
     Some(players)

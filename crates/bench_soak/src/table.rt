@@ -2,7 +2,6 @@
 
 use crate::kind::Reference;
 use nob_dispatch_objects::{Done, Outcome};
-use nob_ids::SpaceId;
 use nob_pickle::Value;
 use std::alloc::Global;
 use std::mem;
@@ -30,16 +29,16 @@ enum Doing {
 #[derive(Drop)]
 pub(crate) struct Table {
     alloc: Global,
-    // The space that it is an object of: none of its references is kept, since nobody could have them
+    // The number of the space that it is an object of: none of its references is kept, since nobody could have them
     // given back once all sessions are closed.
-    space: SpaceId,
+    space: u16,
     kept: Vec<Reference>,
     doing: Doing,
 }
 
 impl Table {
-    // One of a space, which keeps nothing yet.
-    pub(crate) fn new(alloc: Global, space: SpaceId) -> Table {
+    // One of the space of a number, which keeps nothing yet.
+    pub(crate) fn new(alloc: Global, space: u16) -> Table {
         Table {
             alloc,
             space,
@@ -53,7 +52,7 @@ impl Table {
         let Some(reference) = Reference::of_value(args) else {
             return Outcome::NoMethod;
         };
-        if reference.rep.owner == self.space || self.kept.len() >= MAX_KEPT {
+        if reference.rep.owner.get() == self.space || self.kept.len() >= MAX_KEPT {
             return Outcome::Fault(Value::Int(2));
         }
         self.doing = Doing::Keeps(reference);
@@ -84,11 +83,12 @@ impl Table {
 
     // Keeps a reference that it has a hold on.
     fn kept(&mut self, reference: Reference) -> Outcome {
+        let rep = reference.rep;
         if add(&mut self.kept, reference) {
             return Outcome::Answer(Value::Unit);
         }
         self.doing = Doing::Refuses;
-        Outcome::Release(reference.rep)
+        Outcome::Release(rep)
     }
 
     // Begins a method.

@@ -4,7 +4,6 @@ use crate::caller::Caller;
 use crate::kind::Kind;
 use crate::table::Table;
 use nob_dispatch_objects::{Done, Object, Outcome};
-use nob_ids::SpaceId;
 use nob_pickle::Value;
 use std::alloc::Global;
 use std::thread;
@@ -28,8 +27,8 @@ pub(crate) enum Thing {
 }
 
 impl Thing {
-    // A new one of a kind, at a space.
-    pub(crate) fn new(alloc: Global, kind: Kind, space: SpaceId) -> Thing {
+    // A new one of a kind, at the space of a number.
+    pub(crate) fn new(alloc: Global, kind: Kind, space: u16) -> Thing {
         match kind {
             Kind::Counter => Thing::Counter(0),
             Kind::Table => Thing::Table(Table::new(alloc, space)),
