@@ -27,8 +27,9 @@ impl Caller {
         let Some(reference) = Reference::of_value(args) else {
             return Outcome::NoMethod;
         };
+        let owner = reference.owner();
         let Reference { rep: target, kind } = reference;
-        if target.owner.get() <= self.space || !kind.is_leaf() {
+        if owner <= self.space || !kind.is_leaf() {
             return Outcome::Fault(Value::Int(6));
         }
         Outcome::Call {

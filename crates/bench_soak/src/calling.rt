@@ -21,11 +21,12 @@ pub(crate) fn call_any<R: Wait>(
     let Some(target) = target_by(soaker, pocket) else {
         return;
     };
+    let owner = target.owner();
     let Reference { rep, kind } = target;
     let method = method_of(soaker, kind);
     let fresh = made_for_call(soaker, rt, node);
     let value = value_by(soaker, rep, kind, pocket, reference_in(&fresh));
-    soaker.say(rt, Doing::Calls(rep.owner.get()));
+    soaker.say(rt, Doing::Calls(owner));
     let called = call_held(rt, node, pocket, rep, method, value);
     take_returned(soaker, rt, node, pocket, called);
     if let Some(held) = fresh {

@@ -52,7 +52,8 @@ impl Table {
         let Some(reference) = Reference::of_value(args) else {
             return Outcome::NoMethod;
         };
-        if reference.rep.owner.get() == self.space || self.kept.len() >= MAX_KEPT {
+        let owner = reference.owner();
+        if owner == self.space || self.kept.len() >= MAX_KEPT {
             return Outcome::Fault(Value::Int(2));
         }
         self.doing = Doing::Keeps(reference);
