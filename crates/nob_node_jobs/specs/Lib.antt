@@ -1,4 +1,4 @@
 pub use Rattle.nob_dispatch.specs.Shelves
-pub use Rattle.nob_dispatch.specs.Place
-pub use Rattle.nob_dispatch.specs.Return
+pub use Rattle.nob_dispatch.specs.declared.shelf.Place
+pub use Rattle.nob_dispatch.specs.declared.errand.Return
 pub use Rattle.nob_dispatch.specs.Assigning

@@ -3,7 +3,7 @@
 ghost use Rattle.std.specs.Prelude.{◌≡◌, true, false, IfOk, IfErr, OnOk, OnErr};
 ghost use Rattle.nob_dispatch.specs.Assigning as assigning;
 ghost use Rattle.nob_dispatch.specs.Shelves as shelves;
-ghost use Rattle.nob_dispatch.specs.Place.TheVariants.{Here, Away};
+ghost use Rattle.nob_dispatch.specs.declared.shelf.Place.TheVariants.{Here, Away};
 ghost use Rattle.nob_node_parts.specs.declared.object.Kept.TheVariants as kept;
 
 use nob_dispatch::{Assigned, Desk, Place};

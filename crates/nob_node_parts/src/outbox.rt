@@ -1,6 +1,6 @@
 //! What transmits for a node, and ends its links.
 
-ghost use Rattle.std.specs.Prelude.{◌≡◌, [], true, Some, None, MatchOption};
+ghost use Rattle.std.specs.Prelude.{◌≡◌, [], true, Some, None};
 ghost use Rattle.nob_node_parts.specs.Outboxes as outboxes;
 ghost use Rattle.nob_node_parts.specs.declared.outbox.Pulse.TheVariants as pulses;
 
@@ -129,7 +129,10 @@ impl Outbox {
     }
 
     // Puts a way back that was just taken out. There is room for it.
-    fn keep(&mut self, way: Way<PutEnd>) {
+    fn keep(&mut self, way: Way<PutEnd>)
+        ensures sender { self.new.sender ≡ self.old.sender }
+        ensures seat { self.new.seat ≡ self.old.seat }
+    {
         let _ = self.ways.push(way);
     }
 
