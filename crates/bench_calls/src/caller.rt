@@ -3,14 +3,14 @@
 use crate::owner::{NAME, give_back};
 use crate::task::Kind;
 use crate::thing::Thing;
+use crate::timer::{Timer, Waited};
 use nob_ids::SpaceId;
 use nob_node::{Hold, Node, Returned};
 use nob_pickle::{Value, Values};
 use std::alloc::Global;
-use std::io;
 use std::sync::Wait;
 use std::sync::atomic::AtomicU64;
-use std::time::{Clock, Duration, Instant};
+use std::time::{Clock, Duration};
 
 /// Who is called, and through whom.
 pub(crate) struct Called {
@@ -61,24 +61,24 @@ impl Called {
         answered
     }
 
-    // Makes so many calls without an argument, and says for how many nanoseconds each was waited for:
-    // how many were answered.
+    // Makes so many calls without an argument, and says how each was waited for: how many were
+    // answered.
     pub(crate) fn time_all<R: Wait, C: Clock>(
         &self,
         rt: &R,
-        clock: &C,
+        timer: &Timer<C>,
         node: &mut Node<Thing>,
         calls: u64,
-        waits: &mut Vec<u64>,
+        waits: &mut Vec<Waited>,
     ) -> u64 {
         let mut answered: u64 = 0;
         for _ in 0..calls {
-            let began = Instant::now(clock);
+            let began = timer.begin();
             if ask(rt, node, &self.server, Value::Unit).is_none() {
                 continue;
             }
             answered = answered.saturating_add(1);
-            if let Some(wait) = nanos_since(clock, began) {
+            if let Some(wait) = timer.end(began) {
                 let _ = waits.push(wait);
             }
         }
@@ -131,12 +131,6 @@ impl Called {
         give_back(rt, node, server);
         give_back(rt, node, relay);
     }
-}
-
-// How many nanoseconds went by since a moment, if the clock can be read.
-fn nanos_since<C: Clock>(clock: &C, began: io::Result<Instant>) -> Option<u64> {
-    let waited = began.ok()?.elapsed(clock).ok()?;
-    u64::try_from(waited.as_nanos()).ok()
 }
 
 // The object of a space's name.

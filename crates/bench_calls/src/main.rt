@@ -10,6 +10,7 @@ mod running;
 mod saying;
 mod task;
 mod thing;
+mod timer;
 
 use crate::floor::run_floor;
 use crate::running::run_all;

@@ -4,11 +4,13 @@ use crate::caller::Called;
 use crate::owner::{NAME, give_back, name_for, offer, offer_each};
 use crate::task::{Kind, Task};
 use crate::thing::Thing;
+use crate::timer::{Timer, Waited};
 use nob_ids::SpaceId;
 use nob_node::Node;
 use nob_nodes::Company;
 use std::alloc::Global;
 use std::sync::Wait;
+use std::sync::atomic::AtomicU64;
 use std::time::Clock;
 
 /// What an application is there for.
@@ -22,32 +24,36 @@ pub(crate) enum Part {
 
 /// An application.
 #[derive(Drop)]
-pub(crate) struct Player<'c, C: Clock> {
+pub(crate) struct Player<'c, 's, C: Clock> {
     alloc: Global,
     clock: &'c C,
+    // How many timed calls of all callers were answered.
+    served: &'s AtomicU64,
     part: Part,
     task: Task,
     server: SpaceId,
     relay: SpaceId,
     // How many of its calls were answered.
     pub(crate) answered: u64,
-    // For how many nanoseconds it waited for each call that it timed.
-    pub(crate) waits: Vec<u64>,
+    // How it waited for each call that it timed.
+    pub(crate) waits: Vec<Waited>,
 }
 
-impl<'c, C: Clock> Player<'c, C> {
+impl<'c, 's, C: Clock> Player<'c, 's, C> {
     // One that is there for this. Only memory fails it.
     pub(crate) fn new(
         alloc: Global,
         clock: &'c C,
+        served: &'s AtomicU64,
         part: Part,
         task: Task,
         server: SpaceId,
         relay: SpaceId,
-    ) -> Option<Player<'c, C>> {
+    ) -> Option<Player<'c, 's, C>> {
         Some(Player {
             alloc,
             clock,
+            served,
             part,
             task,
             server,
@@ -81,7 +87,8 @@ impl<'c, C: Clock> Player<'c, C> {
         };
         if let Some(called) = Called::find(rt, node, self.server, name, self.relay) {
             self.answered = if self.task.kind == Kind::Timed {
-                called.time_all(rt, self.clock, node, self.task.calls, &mut self.waits)
+                let timer = Timer::new(self.clock, self.served);
+                called.time_all(rt, &timer, node, self.task.calls, &mut self.waits)
             } else {
                 called.call_all(rt, self.alloc, node, self.task.kind, self.task.calls)
             };
@@ -91,7 +98,7 @@ impl<'c, C: Clock> Player<'c, C> {
     }
 }
 
-impl<'c, C: Clock> nob_nodes::Player<Thing> for Player<'c, C> {
+impl<'c, 's, C: Clock> nob_nodes::Player<Thing> for Player<'c, 's, C> {
     fn run<R: Wait>(&mut self, rt: &R, node: &mut Node<Thing>, company: &Company) {
         match self.part {
             Part::Offers(thing) => self.offer(rt, node, company, thing),

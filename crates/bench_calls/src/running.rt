@@ -4,22 +4,24 @@ use crate::player::{Part, Player};
 use crate::saying::{BEGIN, END, say};
 use crate::task::{Kind, Task};
 use crate::thing::Thing;
+use crate::timer::Waited;
 use nob_ids::SpaceId;
 use nob_model_types::Answer;
 use nob_node::{OpenGate, Record};
 use nob_nodes::{Beside, Layout, Meeting, Nodes, Played, run_nodes};
 use std::alloc::Global;
 use std::sync::Wait;
+use std::sync::atomic::AtomicU64;
 use std::thread::Threads;
 use std::time::Clock;
 
 /// What came of a task: how many calls were answered, how many frames the nodes gave, as far as they
-/// kept what they did, and for how many nanoseconds each call that was timed was waited for.
+/// kept what they did, and how each call that was timed was waited for.
 #[derive(Drop)]
 pub(crate) struct Outcome {
     pub(crate) answered: u64,
     pub(crate) frames: u64,
-    pub(crate) waits: Vec<u64>,
+    pub(crate) waits: Vec<Waited>,
 }
 
 /// Who says when all are there to call or to be called, and when all calls are answered: so who
@@ -61,7 +63,8 @@ pub(crate) fn run_all<R: Threads + Wait + Sync + Print + Clock>(
     alloc: Global,
     task: Task,
 ) -> Option<Outcome> {
-    let players = players_of(rt, alloc, task)?;
+    let served = AtomicU64::new(0);
+    let players = players_of(rt, &served, alloc, task)?;
     let count = u16::try_from(players.len()).ok()?;
     let nodes = Nodes::linked(alloc, layout_of(task)?, count)?;
     let mut teller = Teller { out: rt };
@@ -81,14 +84,19 @@ fn layout_of(task: Task) -> Option<Layout> {
 }
 
 // The applications of all spaces. Only memory fails it.
-fn players_of<'c, C: Clock>(clock: &'c C, alloc: Global, task: Task) -> Option<Vec<Player<'c, C>>> {
+fn players_of<'c, 's, C: Clock>(
+    clock: &'c C,
+    served: &'s AtomicU64,
+    alloc: Global,
+    task: Task,
+) -> Option<Vec<Player<'c, 's, C>>> {
     let offers = if task.kind == Kind::Handoff { 2 } else { 1 };
     let server = SpaceId::new(1)?;
     let relay = SpaceId::new(offers)?;
     let mut players = Vec::new(alloc);
     for number in 1..=task.callers.saturating_add(offers) {
         let part = part_of(task, number);
-        let player = Player::new(alloc, clock, part, task, server, relay)?;
+        let player = Player::new(alloc, clock, served, part, task, server, relay)?;
         players.push(player).ok()?;
     }
     Some(players)

@@ -1,5 +1,6 @@
 //! What is said while others measure, and of waits.
 
+use crate::timer::Waited;
 use std::io;
 
 /// All are there to call or to be called.
@@ -14,21 +15,35 @@ pub(crate) fn say<R: Print>(rt: &R, line: &str) {
 }
 
 // Says within how many nanoseconds 50, 99 and 99.9 of a hundred calls were answered, and what the
-// longest took.
-pub(crate) fn say_waits<R: Print>(rt: &R, mut waits: Vec<u64>) -> io::Result<()> {
-    waits.sort_unstable();
-    let waits = waits.as_slice();
-    let half = share_of(waits, 500);
-    let most = share_of(waits, 990);
-    let nearly_all = share_of(waits, 999);
-    let all = waits.last().copied().unwrap_or(0);
+// longest took; and how many others were answered while a call was waited for.
+pub(crate) fn say_waits<R: Print>(rt: &R, mut waits: Vec<Waited>) -> io::Result<()> {
+    waits.sort_unstable_by_key(|wait| wait.nanos);
+    let half = wait_at(waits.as_slice(), 500).nanos;
+    let most = wait_at(waits.as_slice(), 990).nanos;
+    let nearly_all = wait_at(waits.as_slice(), 999).nanos;
+    let all = last_of(waits.as_slice()).nanos;
     println!(rt;
         "50 of 100 within {half} nanoseconds, 99 within {most}, 99.9 within {nearly_all}, all within {all}"
-    )
+    )?;
+    waits.sort_unstable_by_key(|wait| wait.others);
+    let half = wait_at(waits.as_slice(), 500).others;
+    let all = last_of(waits.as_slice()).others;
+    println!(rt; "meanwhile {half} others were answered or fewer for 50 of 100, {all} or fewer for all")
 }
 
-// The least number that so many of a thousand aren't above, of numbers that rise.
-fn share_of(rising: &[u64], of_thousand: usize) -> u64 {
+// No call was waited for.
+const NO_WAIT: Waited = Waited {
+    nanos: 0,
+    others: 0,
+};
+
+// The one of waits that rise behind which so many of a thousand stand.
+fn wait_at(rising: &[Waited], of_thousand: usize) -> Waited {
     let place = rising.len().saturating_mul(of_thousand) / 1_000;
-    rising.get(place).copied().unwrap_or(0)
+    rising.get(place).copied().unwrap_or(NO_WAIT)
+}
+
+// The last of these.
+fn last_of(waits: &[Waited]) -> Waited {
+    waits.last().copied().unwrap_or(NO_WAIT)
 }

@@ -1,0 +1,83 @@
+//! How a round runs.
+
+use crate::carriers::{Carrier, Way};
+use crate::desk::Desk;
+use crate::judging::{Outcome, outcome_of};
+use crate::player::Soaker;
+use crate::round::{Plan, Round};
+use crate::watch::Watch;
+use nob_ids::SpaceId;
+use nob_node::OpenGate;
+use nob_nodes::{Nodes, run_nodes};
+use std::alloc::Global;
+use std::sync::Wait;
+use std::thread::Threads;
+
+// Runs a round: what it came to. `None` where there is no memory for its parts, or a node's thread
+// can't be made.
+pub(crate) fn run_round<R: Threads + Wait + Sync + Print + Eprint>(
+    rt: &R,
+    alloc: Global,
+    round: Round,
+) -> Option<Outcome> {
+    let (nodes, carriers) = nodes_of(alloc, round)?;
+    let desks = desks_of(alloc, round)?;
+    let players = players_of(alloc, round.plan(), desks.as_slice())?;
+    let mut watch = Watch::new(rt, desks.as_slice(), carriers);
+    let played = run_nodes(rt, nodes, &OpenGate, players, &mut watch)?;
+    Some(outcome_of(alloc, played))
+}
+
+// A desk for each player. Only memory fails it.
+fn desks_of(alloc: Global, round: Round) -> Option<Vec<Desk>> {
+    let mut desks = Vec::new(alloc);
+    for _ in 0..round.spaces {
+        desks.push(Desk::new()).ok()?;
+    }
+    Some(desks)
+}
+
+// The players, each with a desk of these. Only memory fails it.
+fn players_of<'s>(alloc: Global, plan: Plan, desks: &'s [Desk]) -> Option<Vec<Soaker<'s>>> {
+    let mut players = Vec::new(alloc);
+    for number in 1..=plan.spaces {
+        let player = Soaker::new(alloc, plan, number, desks);
+        players.push(player).ok()?;
+    }
+    Some(players)
+}
+
+// The space of a place in a list.
+pub(crate) fn space_at(place: usize) -> Option<SpaceId> {
+    let number = u16::try_from(place).ok()?;
+    SpaceId::new(number.checked_add(1)?)
+}
+
+// The nodes, with links between each two of them, and who carries between those whose links are cut.
+// Only memory fails it.
+fn nodes_of(alloc: Global, round: Round) -> Option<(Nodes, Vec<Carrier>)> {
+    let mut nodes = Nodes::new(alloc, round.layout, round.spaces)?;
+    let mut carriers = Vec::new(alloc);
+    for second in 2..=round.spaces {
+        for first in 1..second {
+            let one = SpaceId::new(first)?;
+            let other = SpaceId::new(second)?;
+            match round.cut_between(one, other) {
+                Some(left) => carriers
+                    .push(carrier_between(&mut nodes, one, other, left)?)
+                    .ok()?,
+                None => nodes.link(one, other)?,
+            }
+        }
+    }
+    Some((nodes, carriers))
+}
+
+// Who carries so much between two nodes. Only memory fails it.
+fn carrier_between(nodes: &mut Nodes, one: SpaceId, other: SpaceId, left: u64) -> Option<Carrier> {
+    let (put_to_one, take_from_one) = nodes.open(one, other)?;
+    let (put_to_other, take_from_other) = nodes.open(other, one)?;
+    let there = Way::new(take_from_one, put_to_other);
+    let back = Way::new(take_from_other, put_to_one);
+    Some(Carrier::new(there, back, left))
+}
