@@ -28,7 +28,9 @@ pub(crate) fn say_waits<R: Print>(rt: &R, mut waits: Vec<Waited>) -> io::Result<
     waits.sort_unstable_by_key(|wait| wait.others);
     let half = wait_at(waits.as_slice(), 500).others;
     let all = last_of(waits.as_slice()).others;
-    println!(rt; "meanwhile {half} others were answered or fewer for 50 of 100, {all} or fewer for all")
+    println!(rt;
+        "meanwhile {half} others were answered or fewer for 50 of 100, {all} or fewer for all"
+    )
 }
 
 // No call was waited for.

@@ -37,12 +37,7 @@ pub(crate) struct Soaker<'s> {
 
 impl<'s> Soaker<'s> {
     // The player of the space of a number, who says at its desk of these what it does.
-    pub(crate) fn new(
-        alloc: Global,
-        plan: Plan,
-        space: u16,
-        desks: &'s [Desk],
-    ) -> Soaker<'s> {
+    pub(crate) fn new(alloc: Global, plan: Plan, space: u16, desks: &'s [Desk]) -> Soaker<'s> {
         Soaker {
             alloc,
             plan,
