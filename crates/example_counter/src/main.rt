@@ -56,7 +56,7 @@ fn main(rt: HostRuntime) -> io::Result<()> {
     if let Some(Value::Int(total)) = caller.player.said {
         println!(&rt; "the counter says {total}")?;
     }
-    let is_withdrawn = match owner.left {
+    let is_withdrawn = match &owner.left {
         Ok(report) => report.objects.is_empty(),
         Err(_) => false,
     };
