@@ -1,6 +1,6 @@
 //! An object that calls others.
 
-use crate::kind::{Kind, Reference};
+use crate::kind::{Kind, Reference, owner_of};
 use nob_dispatch_objects::{Done, Outcome};
 use nob_ids::WireRep;
 use nob_pickle::Value;
@@ -27,9 +27,8 @@ impl Caller {
         let Some(reference) = Reference::of_value(args) else {
             return Outcome::NoMethod;
         };
-        let owner = reference.owner();
         let Reference { rep: target, kind } = reference;
-        if owner <= self.space || !kind.is_leaf() {
+        if owner_of(&target) <= self.space || !kind.is_leaf() {
             return Outcome::Fault(Value::Int(6));
         }
         Outcome::Call {

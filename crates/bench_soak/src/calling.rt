@@ -1,7 +1,7 @@
 //! The calls that a player makes by chance.
 
 use crate::desk::Doing;
-use crate::kind::{Kind, Reference};
+use crate::kind::{Kind, Reference, owner_of};
 use crate::player::Soaker;
 use crate::pocket::{Held, Pocket, give_back};
 use crate::steps::made;
@@ -18,15 +18,13 @@ pub(crate) fn call_any<R: Wait>(
     node: &mut Node<Thing>,
     pocket: &mut Pocket,
 ) {
-    let Some(target) = target_by(soaker, pocket) else {
+    let Some((rep, kind)) = target_by(soaker, pocket) else {
         return;
     };
-    let owner = target.owner();
-    let Reference { rep, kind } = target;
     let method = method_of(soaker, kind);
     let fresh = made_for_call(soaker, rt, node);
     let value = value_by(soaker, rep, kind, pocket, reference_in(&fresh));
-    soaker.say(rt, Doing::Calls(owner));
+    soaker.say(rt, Doing::Calls(owner_of(&rep)));
     let called = call_held(rt, node, pocket, rep, method, value);
     take_returned(soaker, rt, node, pocket, called);
     if let Some(held) = fresh {
@@ -51,10 +49,10 @@ fn reference_in(held: &Option<Held>) -> Option<Reference> {
     }
 }
 
-// The reference to call by: it is held.
-fn target_by(soaker: &mut Soaker, pocket: &Pocket) -> Option<Reference> {
+// The reference to call by, which is held, and the kind of its object.
+fn target_by(soaker: &mut Soaker, pocket: &Pocket) -> Option<(WireRep, Kind)> {
     let held = pocket.any_of_others(&mut soaker.chance, soaker.space)?;
-    Some(held.reference())
+    Some((held.hold.rep(), held.kind))
 }
 
 // A method of an object of a kind.

@@ -60,11 +60,6 @@ pub(crate) struct Reference {
 }
 
 impl Reference {
-    // The number of the space that has the object.
-    pub(crate) fn owner(self) -> u16 {
-        self.rep.owner.get()
-    }
-
     // The value by which it is passed: a list of the reference and the number of its kind.
     pub(crate) fn value(self, alloc: Global) -> Result<Value, AllocError> {
         let mut values = Vec::with_capacity(alloc, 2)?;
@@ -86,4 +81,9 @@ impl Reference {
             _ => None,
         }
     }
+}
+
+// The number of the space that has the object of a reference.
+pub(crate) fn owner_of(rep: &WireRep) -> u16 {
+    rep.owner.get()
 }

@@ -26,7 +26,7 @@ mod words;
 
 use crate::round::{Round, Wish};
 use crate::running::run_round;
-use crate::saying::say;
+use crate::saying::{say, say_round};
 use crate::words::read_wish;
 use std::alloc::Global;
 use std::io;
@@ -66,13 +66,14 @@ fn run<R: Threads + Wait + Sync + Print + Eprint + Clock>(
             break;
         }
         let round = Round::of(wish, number);
+        say_round(rt, round)?;
         let outcome = run_round(rt, alloc, round);
         is_right = is_right
             && match &outcome {
                 Some(outcome) => outcome.is_right(),
                 None => false,
             };
-        say(rt, round, outcome)?;
+        say(rt, outcome)?;
     }
     Ok(is_right)
 }

@@ -4,7 +4,7 @@ use crate::desk::Doing;
 use crate::figures::add;
 use crate::kind::KINDS;
 use crate::player::{LAST_NAME, Soaker, name_of};
-use crate::resting::{clear_others, doze, hear, hear_others};
+use crate::resting::{doze, hear, hear_others};
 use crate::thing::Thing;
 use nob_ids::SpaceId;
 use nob_model_types::Refusal;
@@ -14,16 +14,9 @@ use std::sync::Wait;
 /// How often it tries to open a session, while something of the peer's is still under way here.
 const TRIES: u32 = 20;
 
-// Opens each session anew that is closed, once what others keep is given back and no name stands
-// for a reference of another space.
-//
-// Over links that lose, sessions are closed here alone, where nobody waits for a reply: a peer
-// whose Close is lost hears of it only when it sends something itself. So each sends something.
-pub(crate) fn mend<R: Wait>(soaker: &mut Soaker, rt: &R, node: &mut Node<Thing>) {
-    clear_others(soaker, rt, node);
-    if soaker.plan.loss > 0 {
-        close_some(soaker, rt, node);
-    }
+// Opens each session anew that is closed, once no name stands for a reference of another space. A peer
+// whose Close was lost hears of it only when it sends something itself: so each sends something.
+pub(crate) fn open_all<R: Wait>(soaker: &mut Soaker, rt: &R, node: &mut Node<Thing>) {
     hear_others(soaker, rt, node);
     for number in 1..=soaker.plan.spaces {
         if let Some(peer) = SpaceId::new(number) {
@@ -34,8 +27,12 @@ pub(crate) fn mend<R: Wait>(soaker: &mut Soaker, rt: &R, node: &mut Node<Thing>)
     }
 }
 
-// Closes sessions by chance.
-fn close_some<R: Wait>(soaker: &mut Soaker, rt: &R, node: &mut Node<Thing>) {
+// Closes sessions by chance, where links lose. It is called while nobody waits for a reply: who does would
+// not hear of a Close that is lost.
+pub(crate) fn close_some<R: Wait>(soaker: &mut Soaker, rt: &R, node: &mut Node<Thing>) {
+    if soaker.plan.loss == 0 {
+        return;
+    }
     for number in 1..=soaker.plan.spaces {
         if number != soaker.space
             && soaker.chance.is_so(soaker.plan.closes)

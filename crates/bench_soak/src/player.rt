@@ -4,7 +4,7 @@ use crate::chance::Chance;
 use crate::desk::{Desk, Doing};
 use crate::figures::Figures;
 use crate::kind::{KINDS, Kind};
-use crate::mending::{give_up_all, mend};
+use crate::mending::{close_some, give_up_all, open_all};
 use crate::pocket::{Pocket, give_back};
 use crate::resting::{Ends, clear_others, ends_of, hear_others, rest};
 use crate::round::Plan;
@@ -109,6 +109,16 @@ impl<'s> Soaker<'s> {
         }
     }
 
+    // Has what others keep given back, and closes and opens sessions between two phases. Nobody waits
+    // for a reply while sessions are closed.
+    fn mend<R: Wait>(&mut self, rt: &R, node: &mut Node<Thing>, company: &Company) {
+        clear_others(self, rt, node);
+        self.meet(rt, company);
+        close_some(self, rt, node);
+        self.meet(rt, company);
+        open_all(self, rt, node);
+    }
+
     // Brings all that it has to rest.
     fn end<R: Wait>(&mut self, rt: &R, node: &mut Node<Thing>, company: &Company) {
         clear_others(self, rt, node);
@@ -132,7 +142,7 @@ impl<'s> Player<Thing> for Soaker<'s> {
             self.say(rt, Doing::GivesBack);
             pocket.give_all_back(rt, node);
             self.meet(rt, company);
-            mend(self, rt, node);
+            self.mend(rt, node, company);
             self.meet(rt, company);
         }
         pocket.end(rt, node);

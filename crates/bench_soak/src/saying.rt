@@ -4,14 +4,9 @@ use crate::judging::Outcome;
 use crate::round::Round;
 use std::io;
 
-// Prints what a round was and what it came to. What depends on the schedule goes to standard error,
-// unless something is wrong.
-pub(crate) fn say<R: Print + Eprint>(
-    rt: &R,
-    round: Round,
-    outcome: Option<Outcome>,
-) -> io::Result<()> {
-    say_round(rt, round)?;
+// Prints what a round came to. What depends on the schedule goes to standard error, unless something is
+// wrong.
+pub(crate) fn say<R: Print + Eprint>(rt: &R, outcome: Option<Outcome>) -> io::Result<()> {
     let Some(outcome) = outcome else {
         return println!(rt; "it can't be made");
     };
@@ -30,8 +25,8 @@ pub(crate) fn say<R: Print + Eprint>(
     )
 }
 
-// Prints what a round was.
-fn say_round<R: Print>(rt: &R, round: Round) -> io::Result<()> {
+// Prints what a round is.
+pub(crate) fn say_round<R: Print>(rt: &R, round: Round) -> io::Result<()> {
     let number = round.number;
     let spaces = round.spaces;
     let workers = round.layout.workers;

@@ -1,6 +1,6 @@
 //! An object that keeps references.
 
-use crate::kind::Reference;
+use crate::kind::{Reference, owner_of};
 use nob_dispatch_objects::{Done, Outcome};
 use nob_pickle::Value;
 use std::alloc::Global;
@@ -52,8 +52,7 @@ impl Table {
         let Some(reference) = Reference::of_value(args) else {
             return Outcome::NoMethod;
         };
-        let owner = reference.owner();
-        if owner == self.space || self.kept.len() >= MAX_KEPT {
+        if owner_of(&reference.rep) == self.space || self.kept.len() >= MAX_KEPT {
             return Outcome::Fault(Value::Int(2));
         }
         self.doing = Doing::Keeps(reference);
