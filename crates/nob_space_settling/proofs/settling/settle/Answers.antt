@@ -28,7 +28,7 @@ returns-in_default-clause-answer c limits D stands = settle_none stands (sym c.f
 
 pub index-requires : goal.index-requires
 index-requires c =
-    let seen : find (is_settleable (state_of c.args.parts.now)) c.args.parts.now.waiting.items ≡ Some c.in-Some.message.now = sym c.first_settleable.ensures ∙ ap option_copied c.in-Some.is in
+    let seen : find (is_settleable (state_of c.args.parts.now)) c.args.parts.now.messages.waiting.items ≡ Some c.in-Some.message.now = sym c.first_settleable.ensures ∙ ap option_copied c.in-Some.is in
     let range = peer_range c.args.parts.now.here.space c.args.parts.now.here.n c.in-Some.message.now.from (message_sound c.requires.2 c.in-Some.message.now seen).peer in
     let each = c.requires.2.ends.each in
     let owner = c.place-at.ensures.value in
@@ -36,7 +36,7 @@ index-requires c =
 
 pub returns-then-free_numbers-given_count-clause-answer : goal.returns-then-free_numbers-given_count-clause-answer
 returns-then-free_numbers-given_count-clause-answer c limits D stands =
-    let seen : find (is_settleable (state_of c.args.parts.now)) c.args.parts.now.waiting.items ≡ Some c.in-Some.message.now = sym c.first_settleable.ensures ∙ ap option_copied c.in-Some.is in
+    let seen : find (is_settleable (state_of c.args.parts.now)) c.args.parts.now.messages.waiting.items ≡ Some c.in-Some.message.now = sym c.first_settleable.ensures ∙ ap option_copied c.in-Some.is in
     let looked : c.index.result.now ≡ get_or c.args.parts.now.sessions.items (c.in-Some.message.now.from - 1) c.index.result.now = subst (λ (k : ℕ). c.index.result.now ≡ get_or c.args.parts.now.sessions.items k c.index.result.now) c.place-at.ensures.value c.index.ensures in
     let call : c.lost_call-call.result ≡ lost_call c.in-Some.message.now.item (has_lost c.args.parts.now.here.space c.args.parts.now.here.n (state_of c.args.parts.now) c.in-Some.message.now) = c.lost_call-call.ensures ∙ ap (lost_call c.in-Some.message.now.item) c.has_lost-lost.ensures in
     let count : c.given_count.result ≡ given_count (lost_call c.in-Some.message.now.item (has_lost c.args.parts.now.here.space c.args.parts.now.here.n (state_of c.args.parts.now) c.in-Some.message.now)) = c.given_count.ensures ∙ ap given_count call in
@@ -46,19 +46,19 @@ returns-then-free_numbers-given_count-clause-answer c limits D stands =
 
 pub encode_note-requires : goal.encode_note-requires
 encode_note-requires c =
-    let seen : find (is_settleable (state_of c.args.parts.now)) c.args.parts.now.waiting.items ≡ Some c.in-Some.message.now = sym c.first_settleable.ensures ∙ ap option_copied c.in-Some.is in
+    let seen : find (is_settleable (state_of c.args.parts.now)) c.args.parts.now.messages.waiting.items ≡ Some c.in-Some.message.now = sym c.first_settleable.ensures ∙ ap option_copied c.in-Some.is in
     settle_spelled c.in-Some.message.now.number (number_there c.args.parts.now.here.space c.args.parts.now.here.n c.requires.0 c.requires.1 (is_settleable (state_of c.args.parts.now)) c.in-Some.message.now c.requires.2.right
     (ap (λ W. find (is_settleable (state_of c.args.parts.now)) W.waiting) (sym c.requires.2.work) ∙ seen))
 
 pub payload_if-requires : goal.payload_if-requires
 payload_if-requires c =
-    let seen : find (is_settleable (state_of c.args.parts.now)) c.args.parts.now.waiting.items ≡ Some c.in-Some.message.now = sym c.first_settleable.ensures ∙ ap option_copied c.in-Some.is in
+    let seen : find (is_settleable (state_of c.args.parts.now)) c.args.parts.now.messages.waiting.items ≡ Some c.in-Some.message.now = sym c.first_settleable.ensures ∙ ap option_copied c.in-Some.is in
     subst (λ found. IfSome found (λ k. is_call_number k ≡ true)) (sym c.lost_call-call.ensures)
     (lost_numbered c.in-Some.message.now.item c.has_lost-lost.result (message_sound c.requires.2 c.in-Some.message.now seen).number)
 
 pub index_mut-session-requires : goal.index_mut-session-requires
 index_mut-session-requires c =
-    let seen : find (is_settleable (state_of c.args.parts.now)) c.args.parts.now.waiting.items ≡ Some c.in-Some.message.now = sym c.first_settleable.ensures ∙ ap option_copied c.in-Some.is in
+    let seen : find (is_settleable (state_of c.args.parts.now)) c.args.parts.now.messages.waiting.items ≡ Some c.in-Some.message.now = sym c.first_settleable.ensures ∙ ap option_copied c.in-Some.is in
     let range = peer_range c.args.parts.now.here.space c.args.parts.now.here.n c.in-Some.message.now.from (message_sound c.requires.2 c.in-Some.message.now seen).peer in
     let each = c.requires.2.ends.each in
     let owner = c.place-at.ensures.value in
@@ -66,7 +66,7 @@ index_mut-session-requires c =
 
 pub send_notes-requires-clause-open : goal.send_notes-requires-clause-open
 send_notes-requires-clause-open c =
-    let seen : find (is_settleable (state_of c.args.parts.now)) c.args.parts.now.waiting.items ≡ Some c.in-Some.message.now = sym c.first_settleable.ensures ∙ ap option_copied c.in-Some.is in
+    let seen : find (is_settleable (state_of c.args.parts.now)) c.args.parts.now.messages.waiting.items ≡ Some c.in-Some.message.now = sym c.first_settleable.ensures ∙ ap option_copied c.in-Some.is in
     let looked : c.index.result.now ≡ get_or c.args.parts.now.sessions.items (c.in-Some.message.now.from - 1) c.index.result.now = subst (λ (k : ℕ). c.index.result.now ≡ get_or c.args.parts.now.sessions.items k c.index.result.now) c.place-at.ensures.value c.index.ensures in
     let call : c.lost_call-call.result ≡ lost_call c.in-Some.message.now.item (has_lost c.args.parts.now.here.space c.args.parts.now.here.n (state_of c.args.parts.now) c.in-Some.message.now) = c.lost_call-call.ensures ∙ ap (lost_call c.in-Some.message.now.item) c.has_lost-lost.ensures in
     let count : c.given_count.result ≡ given_count (lost_call c.in-Some.message.now.item (has_lost c.args.parts.now.here.space c.args.parts.now.here.n (state_of c.args.parts.now) c.in-Some.message.now)) = c.given_count.ensures ∙ ap given_count call in
@@ -83,7 +83,7 @@ send_notes-requires-clause-open c =
 
 pub send_notes-requires-clause-free : goal.send_notes-requires-clause-free
 send_notes-requires-clause-free c =
-    let seen : find (is_settleable (state_of c.args.parts.now)) c.args.parts.now.waiting.items ≡ Some c.in-Some.message.now = sym c.first_settleable.ensures ∙ ap option_copied c.in-Some.is in
+    let seen : find (is_settleable (state_of c.args.parts.now)) c.args.parts.now.messages.waiting.items ≡ Some c.in-Some.message.now = sym c.first_settleable.ensures ∙ ap option_copied c.in-Some.is in
     let looked : c.index.result.now ≡ get_or c.args.parts.now.sessions.items (c.in-Some.message.now.from - 1) c.index.result.now = subst (λ (k : ℕ). c.index.result.now ≡ get_or c.args.parts.now.sessions.items k c.index.result.now) c.place-at.ensures.value c.index.ensures in
     let call : c.lost_call-call.result ≡ lost_call c.in-Some.message.now.item (has_lost c.args.parts.now.here.space c.args.parts.now.here.n (state_of c.args.parts.now) c.in-Some.message.now) = c.lost_call-call.ensures ∙ ap (lost_call c.in-Some.message.now.item) c.has_lost-lost.ensures in
     let count : c.given_count.result ≡ given_count (lost_call c.in-Some.message.now.item (has_lost c.args.parts.now.here.space c.args.parts.now.here.n (state_of c.args.parts.now) c.in-Some.message.now)) = c.given_count.ensures ∙ ap given_count call in
@@ -103,17 +103,17 @@ send_notes-requires-clause-free c =
 
 pub returns-in_err-send_notes-clause-err : goal.returns-in_err-send_notes-clause-err
 returns-in_err-send_notes-clause-err c = after_error _ c.from_residual-in_err-send_notes.result (λ limits D stands.
-    let seen : find (is_settleable (state_of c.args.parts.now)) c.args.parts.now.waiting.items ≡ Some c.in-Some.message.now = sym c.first_settleable.ensures ∙ ap option_copied c.in-Some.is in
+    let seen : find (is_settleable (state_of c.args.parts.now)) c.args.parts.now.messages.waiting.items ≡ Some c.in-Some.message.now = sym c.first_settleable.ensures ∙ ap option_copied c.in-Some.is in
     let is : c.index_mut-session.result.now ≡ get_or c.args.parts.now.sessions.items (c.in-Some.message.now.from - 1) c.index_mut-session.result.now = subst (λ (k : ℕ). c.index_mut-session.result.now ≡ get_or c.args.parts.now.sessions.items k c.index_mut-session.result.now) c.place-at.ensures.value c.index_mut-session.ensures.value in
     subst (λ (k : ℕ). Stands c.args.parts.now.here.space c.args.parts.now.here.n limits (after k work_then) D) (sym c.place-at.ensures.value)
     (subst (λ (W : Outstanding). Stands c.args.parts.now.here.space c.args.parts.now.here.n limits (after (c.in-Some.message.now.from - 1) W) D) (sym work_same)
     (stands_kept stands c.in-Some.message.now.from c.index_mut-session.result.now c.send_notes.new.session (message_sound stands c.in-Some.message.now seen).peer is c.in_err-send_notes.ensures.err)))
   where
     work_then : Outstanding
-    work_then = record { waiting = c.args.parts.now.waiting.items; ready = c.reserve_ready.new.self.ready; running = c.reserve_ready.new.self.running; replies = c.reserve_replies.new.self.replies; calls = c.reserve_replies.new.self.calls }
+    work_then = record { waiting = c.args.parts.now.messages.waiting.items; ready = c.reserve_ready.new.self.ready; running = c.reserve_ready.new.self.running; replies = c.reserve_replies.new.self.replies; calls = c.reserve_replies.new.self.calls }
 
     work_same : work_then ≡ (state_of c.args.parts.now).work
-    work_same = λ i. record { waiting = c.args.parts.now.waiting.items; ready = c.reserve_ready.ensures.ready i; running = c.reserve_ready.ensures.running i; replies = c.reserve_replies.ensures.replies i; calls = c.reserve_replies.ensures.calls i }
+    work_same = λ i. record { waiting = c.args.parts.now.messages.waiting.items; ready = c.reserve_ready.ensures.ready i; running = c.reserve_ready.ensures.running i; replies = c.reserve_replies.ensures.replies i; calls = c.reserve_replies.ensures.calls i }
 
     after : ℕ → Outstanding → State
     after k W =
@@ -123,22 +123,22 @@ returns-in_err-send_notes-clause-err c = after_error _ c.from_residual-in_err-se
           dirty = c.args.parts.now.dirty;
           pins = c.args.parts.now.pins;
           work = W;
-          awaited = c.args.parts.now.waiting.awaited;
+          awaited = c.args.parts.now.messages.waiting.awaited;
           calls = c.args.parts.now.calls_made;
           jobs = c.args.parts.now.jobs_made;
         }
 
 pub put_settled-requires-clause-lent : goal.put_settled-requires-clause-lent
 put_settled-requires-clause-lent c =
-    let seen : find (is_settleable (state_of c.args.parts.now)) c.args.parts.now.waiting.items ≡ Some c.in-Some.message.now = sym c.first_settleable.ensures ∙ ap option_copied c.in-Some.is in
-    let taken : find (is_settleable (state_of c.args.parts.now)) c.args.parts.now.waiting.items ≡ Some c.in-Some-take_settleable.message = sym c.take_settleable.ensures.message ∙ c.in-Some-take_settleable.is in
+    let seen : find (is_settleable (state_of c.args.parts.now)) c.args.parts.now.messages.waiting.items ≡ Some c.in-Some.message.now = sym c.first_settleable.ensures ∙ ap option_copied c.in-Some.is in
+    let taken : find (is_settleable (state_of c.args.parts.now)) c.args.parts.now.messages.waiting.items ≡ Some c.in-Some-take_settleable.message = sym c.take_settleable.ensures.message ∙ c.in-Some-take_settleable.is in
     let one : c.in-Some.message.now ≡ c.in-Some-take_settleable.message = some_same (sym seen ∙ taken) in
     let lost : c.has_lost-lost.result ≡ has_lost c.args.parts.now.here.space c.args.parts.now.here.n (state_of c.args.parts.now) c.in-Some-take_settleable.message = c.has_lost-lost.ensures ∙ ap (has_lost c.args.parts.now.here.space c.args.parts.now.here.n (state_of c.args.parts.now)) one in
     subst (λ b. HasLent c.args.parts.now.table (loans_ended c.args.parts.now.here.space c.in-Some-take_settleable.message c.in-Some-take_settleable.message.item b)) (sym lost) (settle_lent c.requires.2 c.in-Some-take_settleable.message taken)
 
 pub returns-in_err-settle-clause-answer : goal.returns-in_err-settle-clause-answer
 returns-in_err-settle-clause-answer c limits D stands =
-    let seen : find (is_settleable (state_of c.args.parts.now)) c.args.parts.now.waiting.items ≡ Some c.in-Some.message.now = sym c.first_settleable.ensures ∙ ap option_copied c.in-Some.is in
+    let seen : find (is_settleable (state_of c.args.parts.now)) c.args.parts.now.messages.waiting.items ≡ Some c.in-Some.message.now = sym c.first_settleable.ensures ∙ ap option_copied c.in-Some.is in
     let looked : c.index.result.now ≡ get_or c.args.parts.now.sessions.items (c.in-Some.message.now.from - 1) c.index.result.now = subst (λ (k : ℕ). c.index.result.now ≡ get_or c.args.parts.now.sessions.items k c.index.result.now) c.place-at.ensures.value c.index.ensures in
     let call : c.lost_call-call.result ≡ lost_call c.in-Some.message.now.item (has_lost c.args.parts.now.here.space c.args.parts.now.here.n (state_of c.args.parts.now) c.in-Some.message.now) = c.lost_call-call.ensures ∙ ap (lost_call c.in-Some.message.now.item) c.has_lost-lost.ensures in
     let count : c.given_count.result ≡ given_count (lost_call c.in-Some.message.now.item (has_lost c.args.parts.now.here.space c.args.parts.now.here.n (state_of c.args.parts.now) c.in-Some.message.now)) = c.given_count.ensures ∙ ap given_count call in
@@ -150,7 +150,7 @@ returns-in_err-settle-clause-answer c limits D stands =
 
 pub returns-in_err-reply-clause-answer : goal.returns-in_err-reply-clause-answer
 returns-in_err-reply-clause-answer c limits D stands =
-    let seen : find (is_settleable (state_of c.args.parts.now)) c.args.parts.now.waiting.items ≡ Some c.in-Some.message.now = sym c.first_settleable.ensures ∙ ap option_copied c.in-Some.is in
+    let seen : find (is_settleable (state_of c.args.parts.now)) c.args.parts.now.messages.waiting.items ≡ Some c.in-Some.message.now = sym c.first_settleable.ensures ∙ ap option_copied c.in-Some.is in
     let looked : c.index.result.now ≡ get_or c.args.parts.now.sessions.items (c.in-Some.message.now.from - 1) c.index.result.now = subst (λ (k : ℕ). c.index.result.now ≡ get_or c.args.parts.now.sessions.items k c.index.result.now) c.place-at.ensures.value c.index.ensures in
     let call : c.lost_call-call.result ≡ lost_call c.in-Some.message.now.item (has_lost c.args.parts.now.here.space c.args.parts.now.here.n (state_of c.args.parts.now) c.in-Some.message.now) = c.lost_call-call.ensures ∙ ap (lost_call c.in-Some.message.now.item) c.has_lost-lost.ensures in
     let count : c.given_count.result ≡ given_count (lost_call c.in-Some.message.now.item (has_lost c.args.parts.now.here.space c.args.parts.now.here.n (state_of c.args.parts.now) c.in-Some.message.now)) = c.given_count.ensures ∙ ap given_count call in
@@ -162,7 +162,7 @@ returns-in_err-reply-clause-answer c limits D stands =
 
 pub returns-in_err-reserve_ready-clause-answer : goal.returns-in_err-reserve_ready-clause-answer
 returns-in_err-reserve_ready-clause-answer c limits D stands =
-    let seen : find (is_settleable (state_of c.args.parts.now)) c.args.parts.now.waiting.items ≡ Some c.in-Some.message.now = sym c.first_settleable.ensures ∙ ap option_copied c.in-Some.is in
+    let seen : find (is_settleable (state_of c.args.parts.now)) c.args.parts.now.messages.waiting.items ≡ Some c.in-Some.message.now = sym c.first_settleable.ensures ∙ ap option_copied c.in-Some.is in
     let looked : c.index.result.now ≡ get_or c.args.parts.now.sessions.items (c.in-Some.message.now.from - 1) c.index.result.now = subst (λ (k : ℕ). c.index.result.now ≡ get_or c.args.parts.now.sessions.items k c.index.result.now) c.place-at.ensures.value c.index.ensures in
     let call : c.lost_call-call.result ≡ lost_call c.in-Some.message.now.item (has_lost c.args.parts.now.here.space c.args.parts.now.here.n (state_of c.args.parts.now) c.in-Some.message.now) = c.lost_call-call.ensures ∙ ap (lost_call c.in-Some.message.now.item) c.has_lost-lost.ensures in
     let count : c.given_count.result ≡ given_count (lost_call c.in-Some.message.now.item (has_lost c.args.parts.now.here.space c.args.parts.now.here.n (state_of c.args.parts.now) c.in-Some.message.now)) = c.given_count.ensures ∙ ap given_count call in
@@ -174,7 +174,7 @@ returns-in_err-reserve_ready-clause-answer c limits D stands =
 
 pub returns-in_err-reserve_replies-clause-answer : goal.returns-in_err-reserve_replies-clause-answer
 returns-in_err-reserve_replies-clause-answer c limits D stands =
-    let seen : find (is_settleable (state_of c.args.parts.now)) c.args.parts.now.waiting.items ≡ Some c.in-Some.message.now = sym c.first_settleable.ensures ∙ ap option_copied c.in-Some.is in
+    let seen : find (is_settleable (state_of c.args.parts.now)) c.args.parts.now.messages.waiting.items ≡ Some c.in-Some.message.now = sym c.first_settleable.ensures ∙ ap option_copied c.in-Some.is in
     let looked : c.index.result.now ≡ get_or c.args.parts.now.sessions.items (c.in-Some.message.now.from - 1) c.index.result.now = subst (λ (k : ℕ). c.index.result.now ≡ get_or c.args.parts.now.sessions.items k c.index.result.now) c.place-at.ensures.value c.index.ensures in
     let call : c.lost_call-call.result ≡ lost_call c.in-Some.message.now.item (has_lost c.args.parts.now.here.space c.args.parts.now.here.n (state_of c.args.parts.now) c.in-Some.message.now) = c.lost_call-call.ensures ∙ ap (lost_call c.in-Some.message.now.item) c.has_lost-lost.ensures in
     let count : c.given_count.result ≡ given_count (lost_call c.in-Some.message.now.item (has_lost c.args.parts.now.here.space c.args.parts.now.here.n (state_of c.args.parts.now) c.in-Some.message.now)) = c.given_count.ensures ∙ ap given_count call in
@@ -186,7 +186,7 @@ returns-in_err-reserve_replies-clause-answer c limits D stands =
 
 pub returns-in_err-send_notes-clause-answer : goal.returns-in_err-send_notes-clause-answer
 returns-in_err-send_notes-clause-answer c limits D stands =
-    let seen : find (is_settleable (state_of c.args.parts.now)) c.args.parts.now.waiting.items ≡ Some c.in-Some.message.now = sym c.first_settleable.ensures ∙ ap option_copied c.in-Some.is in
+    let seen : find (is_settleable (state_of c.args.parts.now)) c.args.parts.now.messages.waiting.items ≡ Some c.in-Some.message.now = sym c.first_settleable.ensures ∙ ap option_copied c.in-Some.is in
     let looked : c.index.result.now ≡ get_or c.args.parts.now.sessions.items (c.in-Some.message.now.from - 1) c.index.result.now = subst (λ (k : ℕ). c.index.result.now ≡ get_or c.args.parts.now.sessions.items k c.index.result.now) c.place-at.ensures.value c.index.ensures in
     let call : c.lost_call-call.result ≡ lost_call c.in-Some.message.now.item (has_lost c.args.parts.now.here.space c.args.parts.now.here.n (state_of c.args.parts.now) c.in-Some.message.now) = c.lost_call-call.ensures ∙ ap (lost_call c.in-Some.message.now.item) c.has_lost-lost.ensures in
     let count : c.given_count.result ≡ given_count (lost_call c.in-Some.message.now.item (has_lost c.args.parts.now.here.space c.args.parts.now.here.n (state_of c.args.parts.now) c.in-Some.message.now)) = c.given_count.ensures ∙ ap given_count call in
@@ -198,7 +198,7 @@ returns-in_err-send_notes-clause-answer c limits D stands =
 
 pub returns-clause-answer : goal.returns-clause-answer
 returns-clause-answer c limits D stands =
-    let seen : find (is_settleable (state_of c.args.parts.now)) c.args.parts.now.waiting.items ≡ Some c.in-Some.message.now = sym c.first_settleable.ensures ∙ ap option_copied c.in-Some.is in
+    let seen : find (is_settleable (state_of c.args.parts.now)) c.args.parts.now.messages.waiting.items ≡ Some c.in-Some.message.now = sym c.first_settleable.ensures ∙ ap option_copied c.in-Some.is in
     let looked : c.index.result.now ≡ get_or c.args.parts.now.sessions.items (c.in-Some.message.now.from - 1) c.index.result.now = subst (λ (k : ℕ). c.index.result.now ≡ get_or c.args.parts.now.sessions.items k c.index.result.now) c.place-at.ensures.value c.index.ensures in
     let call : c.lost_call-call.result ≡ lost_call c.in-Some.message.now.item (has_lost c.args.parts.now.here.space c.args.parts.now.here.n (state_of c.args.parts.now) c.in-Some.message.now) = c.lost_call-call.ensures ∙ ap (lost_call c.in-Some.message.now.item) c.has_lost-lost.ensures in
     let count : c.given_count.result ≡ given_count (lost_call c.in-Some.message.now.item (has_lost c.args.parts.now.here.space c.args.parts.now.here.n (state_of c.args.parts.now) c.in-Some.message.now)) = c.given_count.ensures ∙ ap given_count call in
@@ -209,7 +209,7 @@ returns-clause-answer c limits D stands =
 
 pub returns-clause-stands : goal.returns-clause-stands
 returns-clause-stands c limits D stands =
-    let seen : find (is_settleable (state_of c.args.parts.now)) c.args.parts.now.waiting.items ≡ Some c.in-Some.message.now = sym c.first_settleable.ensures ∙ ap option_copied c.in-Some.is in
+    let seen : find (is_settleable (state_of c.args.parts.now)) c.args.parts.now.messages.waiting.items ≡ Some c.in-Some.message.now = sym c.first_settleable.ensures ∙ ap option_copied c.in-Some.is in
     let looked : c.index.result.now ≡ get_or c.args.parts.now.sessions.items (c.in-Some.message.now.from - 1) c.index.result.now = subst (λ (k : ℕ). c.index.result.now ≡ get_or c.args.parts.now.sessions.items k c.index.result.now) c.place-at.ensures.value c.index.ensures in
     let call : c.lost_call-call.result ≡ lost_call c.in-Some.message.now.item (has_lost c.args.parts.now.here.space c.args.parts.now.here.n (state_of c.args.parts.now) c.in-Some.message.now) = c.lost_call-call.ensures ∙ ap (lost_call c.in-Some.message.now.item) c.has_lost-lost.ensures in
     let count : c.given_count.result ≡ given_count (lost_call c.in-Some.message.now.item (has_lost c.args.parts.now.here.space c.args.parts.now.here.n (state_of c.args.parts.now) c.in-Some.message.now)) = c.given_count.ensures ∙ ap given_count call in
@@ -222,7 +222,7 @@ returns-clause-stands c limits D stands =
     let two = end_there c.args.parts.now.here.space c.args.parts.now.here.n c.requires.0 c.args.parts.now.sessions.items (history_of c.args.parts.now.here.space c.args.parts.now.here.n c.requires.1) c.in-Some.message.now.from c.index_mut-session.result.now c.requires.2.ends peer is in
     let same : c.index.result.now ≡ c.index_mut-session.result.now = some_same (sym one.1 ∙ two.1) in
     let left : given_count (lost_call c.in-Some.message.now.item (has_lost c.args.parts.now.here.space c.args.parts.now.here.n (state_of c.args.parts.now) c.in-Some.message.now)) ≤ last_item - c.index_mut-session.result.now.end.handed = subst (λ (e : Roomy). given_count (lost_call c.in-Some.message.now.item (has_lost c.args.parts.now.here.space c.args.parts.now.here.n (state_of c.args.parts.now) c.in-Some.message.now)) ≤ last_item - e.end.handed) same free in
-    let taken : find (is_settleable (state_of c.args.parts.now)) c.args.parts.now.waiting.items ≡ Some c.in-Some-take_settleable.message = sym c.take_settleable.ensures.message ∙ c.in-Some-take_settleable.is in
+    let taken : find (is_settleable (state_of c.args.parts.now)) c.args.parts.now.messages.waiting.items ≡ Some c.in-Some-take_settleable.message = sym c.take_settleable.ensures.message ∙ c.in-Some-take_settleable.is in
     let one : c.in-Some-take_settleable.message ≡ c.in-Some.message.now = some_same (sym taken ∙ seen) in
     let reply = c.in_ok-reply.ensures.spelled in
     same_space c.put_settled.new.parts.here c.args.parts.now.here c.put_settled.ensures.here (subst (λ (after : State). Stands c.args.parts.now.here.space c.args.parts.now.here.n limits after (did.Settle c.in-Some.message.now.from c.in-Some.message.now.number ∷ D)) (sym c.put_settled.ensures.put)
@@ -242,7 +242,7 @@ returns-clause-stands c limits D stands =
       dirty = c.args.parts.now.dirty;
       pins = c.args.parts.now.pins;
       work = after_settlement c.in-Some-take_settleable.message c.in-Some-take_settleable.message.item c.has_lost-lost.result (record { waiting = c.take_settleable.new.self.items; ready = c.reserve_ready.new.self.ready; running = c.reserve_ready.new.self.running; replies = c.reserve_replies.new.self.replies; calls = c.reserve_replies.new.self.calls });
-      awaited = c.args.parts.now.waiting.awaited;
+      awaited = c.args.parts.now.messages.waiting.awaited;
       calls = c.args.parts.now.calls_made;
       jobs = c.args.parts.now.jobs_made;
     }) (did.Settle c.in-Some.message.now.from c.in-Some.message.now.number ∷ D)) (sym c.place-at.ensures.value)
