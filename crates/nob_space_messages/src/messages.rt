@@ -228,6 +228,7 @@ impl Messages {
         ensures ready_room { self.old.jobs.ready_room ≤ self.new.jobs.ready_room }
         ensures settled_room { self.old.jobs.settled_room ≤ self.new.jobs.settled_room }
         ensures running_room { self.new.jobs.running_room ≡ self.old.jobs.running_room }
+        ensures within { self.old.jobs.ready_room ≤ self.old.jobs.settled_room }
         ensures ok { OnOk result (additional ≤ self.new.jobs.settled_room) }
         ensures succeeds { additional ≤ self.old.jobs.settled_room → IsOk result }
     {
