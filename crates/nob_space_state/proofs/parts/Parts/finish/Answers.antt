@@ -15,6 +15,7 @@ use Rattle.nob_model_types.specs.declared.message.Message.{Message}
 use Rattle.nob_model_work.specs.Work.{is_run}
 use Rattle.nob_model_history.specs.Histories.{history_of}
 use Rattle.nob_model_acting.specs.Sending.{unless}
+use Rattle.nob_space_messages.specs.Waiting.{WaitingList}
 use Rattle.nob_space_state.specs.Looks.{has_ended}
 use Rattle.nob_space_state.specs.Parts.{state_of}
 use Rattle.nob_space_holds.specs.Pins.{AddsPins}
@@ -53,7 +54,17 @@ returns-then-has_ended-clause-answer c limits D stands =
 
 pub returns-then-has_ended-clause-stands : goal.returns-then-has_ended-clause-stands
 returns-then-has_ended-clause-stands c limits D stands =
-    subst (λ (ready : List Message). Stands c.args.self.now.here.space c.args.self.now.here.n limits (record {
+    subst (λ (w : WaitingList). Stands c.args.self.now.here.space c.args.self.now.here.n limits (record {
+      sessions = c.args.self.now.sessions.items;
+      table = c.end_job.new.table;
+      dirty = c.args.self.now.dirty;
+      pins = c.args.self.now.pins;
+      work = record { waiting = w.items; ready = c.end_job.new.messages.jobs.ready; running = c.end_job.new.messages.jobs.running; replies = c.args.self.now.calls.replies; calls = c.args.self.now.calls.calls };
+      awaited = w.awaited;
+      calls = c.args.self.now.calls_made;
+      jobs = c.args.self.now.jobs_made;
+    }) (did.DropReply c.args.job ∷ D)) (sym c.end_job.ensures.waiting)
+    (subst (λ (ready : List Message). Stands c.args.self.now.here.space c.args.self.now.here.n limits (record {
       sessions = c.args.self.now.sessions.items;
       table = c.end_job.new.table;
       dirty = c.args.self.now.dirty;
@@ -62,7 +73,7 @@ returns-then-has_ended-clause-stands c limits D stands =
       awaited = c.args.self.now.messages.waiting.awaited;
       calls = c.args.self.now.calls_made;
       jobs = c.args.self.now.jobs_made;
-    }) (did.DropReply c.args.job ∷ D)) (sym c.end_job.ensures.ready) (drop_stands stands c.args.job c.end_job.new.table c.end_job.new.messages.jobs.running (drop_is c.args.self.now.here.space c.args.self.now.here.n limits D c.args.job c.args.outcome.now (returns-then-has_ended-clause-answer c limits D stands)) c.end_job.ensures.back c.end_job.ensures.ended)
+    }) (did.DropReply c.args.job ∷ D)) (sym c.end_job.ensures.ready) (drop_stands stands c.args.job c.end_job.new.table c.end_job.new.messages.jobs.running (drop_is c.args.self.now.here.space c.args.self.now.here.n limits D c.args.job c.args.outcome.now (returns-then-has_ended-clause-answer c limits D stands)) c.end_job.ensures.back c.end_job.ensures.ended))
 
 pub returns-in_err-refuse_reply-clause-answer : goal.returns-in_err-refuse_reply-clause-answer
 returns-in_err-refuse_reply-clause-answer c limits D stands =
@@ -164,11 +175,21 @@ returns-clause-stands c limits D stands =
       table = c.end_job-2.new.table;
       dirty = c.args.self.now.dirty;
       pins = c.send_pinned.new.pins;
-      work = record { waiting = c.args.self.now.messages.waiting.items; ready = c.end_job-2.new.messages.jobs.ready; running = c.end_job-2.new.messages.jobs.running; replies = c.args.self.now.calls.replies; calls = c.args.self.now.calls.calls };
-      awaited = c.args.self.now.messages.waiting.awaited;
+      work = record { waiting = c.end_job-2.new.messages.waiting.items; ready = c.end_job-2.new.messages.jobs.ready; running = c.end_job-2.new.messages.jobs.running; replies = c.args.self.now.calls.replies; calls = c.args.self.now.calls.calls };
+      awaited = c.end_job-2.new.messages.waiting.awaited;
       calls = c.args.self.now.calls_made;
       jobs = c.args.self.now.jobs_made;
     }) (did.Finish c.args.job c.args.outcome.now ∷ D)) (sym c.place.ensures.value)
+    (subst (λ (w : WaitingList). Stands c.args.self.now.here.space c.args.self.now.here.n limits (record {
+      sessions = set c.args.self.now.sessions.items (c.in-Some.message.now.from - 1) c.send_pinned.new.session;
+      table = c.end_job-2.new.table;
+      dirty = c.args.self.now.dirty;
+      pins = c.send_pinned.new.pins;
+      work = record { waiting = w.items; ready = c.end_job-2.new.messages.jobs.ready; running = c.end_job-2.new.messages.jobs.running; replies = c.args.self.now.calls.replies; calls = c.args.self.now.calls.calls };
+      awaited = w.awaited;
+      calls = c.args.self.now.calls_made;
+      jobs = c.args.self.now.jobs_made;
+    }) (did.Finish c.args.job c.args.outcome.now ∷ D)) (sym c.end_job-2.ensures.waiting)
     (subst (λ (ready : List Message). Stands c.args.self.now.here.space c.args.self.now.here.n limits (record {
       sessions = set c.args.self.now.sessions.items (c.in-Some.message.now.from - 1) c.send_pinned.new.session;
       table = c.end_job-2.new.table;
@@ -185,7 +206,7 @@ returns-clause-stands c limits D stands =
     c.status_of.ensures c.value_of-value.ensures (c.in-Ok.ensures {u = tt}).exact sent.number
     (λ before. stepped_onward (ends.Send c.in-Ok.payload.items Limited (Ok c.in_ok-send_pinned.field-0)) refl before (λ M stood. sent.answer c.args.self.now.here.space c.in-Some.message.now.from limits M stood))
     c.in_ok-reps.ensures (subst (λ (reps : List WireRep). AddsPins c.args.self.now.pins.bundles c.send_pinned.new.pins.bundles c.in-Some.message.now.from (c.index_mut-end.result.now.end.handed + 1) reps) c.as_slice.ensures.value sent.pins)
-    c.end_job-2.ensures.back c.end_job-2.ensures.ended)))
+    c.end_job-2.ensures.back c.end_job-2.ensures.ended))))
     c.keep_all.new.table c.keep_all.ensures.table.items
     (kept_have c.args.self.now.here.space c.end_job-2.new.table c.keep_all.new.table c.args.self.now.pins.bundles c.send_pinned.new.pins.bundles c.args.self.now.dirty c.as_slice-2.result.now
     (none_added c.args.self.now.pins.bundles c.send_pinned.new.pins.bundles c.in-Some.message.now.from (c.index_mut-end.result.now.end.handed + 1) c.as_slice-2.result.now (subst (λ (reps : List WireRep). AddsPins c.args.self.now.pins.bundles c.send_pinned.new.pins.bundles c.in-Some.message.now.from (c.index_mut-end.result.now.end.handed + 1) reps) (c.as_slice.ensures.value ∙ sym c.as_slice-2.ensures.value) sent.pins))
