@@ -9,9 +9,9 @@ use crate::deed::Deed;
 use crate::here::Here;
 use crate::same::same_value;
 use crate::{Job, sessions, turns};
+use nob_collections::List;
 use nob_ids::{CallNo, ItemNo, SpaceId, WireRep};
 use nob_item::Item;
-use nob_slots::List;
 use std::alloc::{AllocError, Global};
 
 /// Whether a reference that came in a message is lent to this space.

@@ -8,8 +8,8 @@ ghost use Rattle.nob_pins.specs.Evidence.{reps_of};
 ghost use Rattle.nob_pins.specs.Peers.{count_in};
 
 use crate::pin::TransitPin;
+use nob_collections::Rows;
 use nob_ids::{SpaceId, WireRep};
-use nob_rows::Rows;
 use std::alloc::{AllocError, Global};
 use std::marker::Model;
 

@@ -6,7 +6,7 @@ use Rattle.std.proofs.lemmas.Map.{lookup-set_value}
 use Rattle.std.proofs.lemmas.Option.{none-some}
 use Rattle.std.specs.List.{AllByRecursion}
 use Rattle.std.specs.Map.{remove_entry, set_value}
-use Rattle.nob_slots.specs.Slots.{item_at, is_number, IsAbove, IsRising}
+use Rattle.nob_collections.specs.Slots.{item_at, is_number, IsAbove, IsRising}
 
 one_number : (n x y : ℕ) → is_number n x ≡ true → is_number n y ≡ is_number x y
 one_number n x y t = ap (λ (k : ℕ). is_number k y) (eqb-true n x t)

@@ -2,7 +2,7 @@
 use Rattle.std.proofs.Common.{◌≡◌, ℕ, List, [], ◌∷◌, length, count_by, Option, is_some, refl, sym, ap, subst, ◌∙◌, arith}
 use Prim.Native.Nat.{zero, suc}
 use Rattle.std.proofs.lemmas.Option.{none-some}
-use Rattle.nob_slots.specs.Slots.{SlotList, item_at, IsRising}
+use Rattle.nob_collections.specs.Slots.{SlotList, item_at, IsRising}
 use Rattle.nob_queues.specs.Keys.{AreKept, Stands, keys_at}
 
 module _ (one two three : SlotList ℕ) (none_one : one.rows ≡ []) (none_two : two.rows ≡ []) (none_three : three.rows ≡ []) where

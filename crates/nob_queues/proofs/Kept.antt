@@ -6,9 +6,9 @@ use Rattle.std.proofs.lemmas.Bool.{cases_eq}
 use Rattle.std.proofs.lemmas.Cmp.{nat_eq_equiv}
 use Rattle.std.proofs.lemmas.Option.{none-some, same_Some}
 use Rattle.std.specs.Map.{remove_entry, set_value}
-use Rattle.nob_slots.specs.Slots.{SlotList, item_at, is_number, IsAbove, IsRising}
-use Rattle.nob_slots.proofs.Flat.{get_set_other, get_set_same, length_push}
-use Rattle.nob_slots.proofs.Rising.{rising_push}
+use Rattle.nob_collections.specs.Slots.{SlotList, item_at, is_number, IsAbove, IsRising}
+use Rattle.nob_collections.proofs.Flat.{get_set_other, get_set_same, length_push}
+use Rattle.nob_collections.proofs.Rising.{rising_push}
 use Rattle.nob_queues.specs.Queues.{queue_or_none, row_if}
 use Rattle.nob_queues.specs.Keys.{AreKept, Stands, item_of, key_count, keys_at, rows_of}
 use Rattle.nob_queues.proofs.Found.{pushed_at, removed_at, removed_rising}

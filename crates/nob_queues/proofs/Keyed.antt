@@ -5,7 +5,7 @@ use Rattle.std.proofs.lemmas.Cmp.{nat_eq_equiv}
 use Rattle.std.proofs.lemmas.Option.{same_Some}
 use Rattle.std.specs.List.{AllByRecursion}
 use Rattle.std.specs.Map.{remove_entry, set_value}
-use Rattle.nob_slots.specs.Slots.{SlotList, item_at, is_number, IsRising}
+use Rattle.nob_collections.specs.Slots.{SlotList, item_at, is_number, IsRising}
 use Rattle.nob_queues.specs.Queues.{queue_or_none, row_if}
 use Rattle.nob_queues.specs.Keys.{item_of, queue_of, rows_of, with_row}
 use Rattle.nob_queues.proofs.Found.{found_above, found_behind}

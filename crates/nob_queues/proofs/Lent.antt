@@ -4,7 +4,7 @@ use Prim.Native.Nat.{zero, suc}
 use lib.ListN.{set}
 use Rattle.std.proofs.lemmas.List.Sums.{sum_by-cons}
 use Rattle.std.proofs.lemmas.Option.{none-some, same_Some}
-use Rattle.nob_slots.specs.Slots.{SlotList, item_at}
+use Rattle.nob_collections.specs.Slots.{SlotList, item_at}
 use Rattle.nob_queues.specs.Queues.{QueueLists, queue_or_none, with_item, writes_item}
 use Rattle.nob_queues.specs.Keys.{AreKept, item_of, queue_of, rows_of}
 use Rattle.nob_queues.proofs.Keyed.{queue_is}

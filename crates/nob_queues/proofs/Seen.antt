@@ -6,8 +6,8 @@ use Rattle.std.proofs.lemmas.Bool.{eqb-false}
 use Rattle.std.proofs.lemmas.Option.{slice_get_read}
 use Rattle.std.specs.Prelude.{IfSome}
 use Rattle.std.specs.Map.{remove_entry}
-use Rattle.nob_slots.specs.Slots.{SlotList, item_at, is_marked, is_number, IsAbove, IsRising, PutsMark}
-use Rattle.nob_slots.proofs.Flat.{get_set_other, get_set_same}
+use Rattle.nob_collections.specs.Slots.{SlotList, item_at, is_marked, is_number, IsAbove, IsRising, PutsMark}
+use Rattle.nob_collections.proofs.Flat.{get_set_other, get_set_same}
 use Rattle.nob_queues.specs.Queues.{KeepsBut, queue_or_none}
 use Rattle.nob_queues.specs.Keys.{AreKept, Stands, item_of, keys_at, queue_of, rows_of}
 use Rattle.nob_queues.proofs.Keyed.{all_found, all_out, item_in, item_or, length_in, queue_is, removed_in, rising_in}

@@ -3,8 +3,8 @@ use Rattle.std.proofs.Common.{◌≡◌, ℕ, ◌<◌, List, [], ◌∷◌, leng
 use Prim.Native.Nat.{zero, suc}
 use Rattle.std.proofs.lemmas.Bool.{eqb-false}
 use Rattle.std.specs.Map.{set_value}
-use Rattle.nob_slots.specs.Slots.{SlotList, is_number}
-use Rattle.nob_slots.proofs.Flat.{get_set_other, get_set_same}
+use Rattle.nob_collections.specs.Slots.{SlotList, is_number}
+use Rattle.nob_collections.proofs.Flat.{get_set_other, get_set_same}
 use Rattle.nob_queues.specs.Queues.{QueueLists, KeepsBut, marked_at, queue_at, queue_or_none, rows_at, with_item, writes_item}
 
 -- what stands at a place below the length

@@ -1,6 +1,6 @@
 -- How items stand in a slab, and the queues are lists of keys. No public clause cites this module.
 use Rattle.std.specs.Prelude.{◌≡◌, ℕ, ◌+◌, List, [], ◌∷◌, length, count_by, slice_get, slice_index_or, Option, Some, None, is_some, IsSome}
-use Rattle.nob_slots.specs.Slots.{SlotList, item_at, IsRising}
+use Rattle.nob_collections.specs.Slots.{SlotList, item_at, IsRising}
 use Rattle.nob_queues.specs.Queues.{queue_or_none}
 
 -- the keys of a queue under their numbers

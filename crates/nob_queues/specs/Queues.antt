@@ -2,7 +2,7 @@
 use Rattle.std.specs.Prelude.{◌≡◌, ℕ, ◌==◌, false, List, [], ◌∷◌, slice_get, slice_set, Option, Some, None, refl}
 use Rattle.std.specs.Coded.{Coded, code_by, coded×, coded_ℕ, coded_list}
 use Rattle.std.specs.Map.{set_value}
-use Rattle.nob_slots.specs.Slots.{SlotList, slot_list_code, is_number}
+use Rattle.nob_collections.specs.Slots.{SlotList, slot_list_code, is_number}
 
 -- the queues, each with its items under rising numbers, and how many more items fit without memory, of whichever queue
 pub record QueueLists (T : Type 0) : Type 0 where

@@ -3,11 +3,11 @@
 ghost use Rattle.std.specs.Prelude.{◌≡◌, ℕ, ◌+◌, ◌-◌, ◌<◌, ◌≤◌, ◌++◌, ◌∷◌, ◌^◌, ◌==◌, [], false, true, length, option_copied, IsOk, IsSome, OnOk, MatchOption, IfSome, Some, None};
 ghost use Rattle.std.specs.Borrow.{sem};
 ghost use Rattle.std.specs.Map.{remove_entry};
-ghost use Rattle.nob_slots.specs.Slots.{item_at, is_number, is_marked, IsAbove, IsFirstMarked, IsRising, NoneMarked, PutsMark};
+ghost use Rattle.nob_collections.specs.Slots.{item_at, is_number, is_marked, IsAbove, IsFirstMarked, IsRising, NoneMarked, PutsMark};
 ghost use Rattle.nob_queues.specs.Keys.{Stands};
 ghost use Rattle.nob_queues.specs.Queues.{KeepsBut, SameOthers, marked_at, queue_at, room_at, row_if, rows_at};
 
-use nob_slots::Slots;
+use nob_collections::Slots;
 use slab::Slab;
 use std::alloc::{AllocError, Global};
 use std::marker::Model;

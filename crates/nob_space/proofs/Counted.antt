@@ -11,7 +11,7 @@ use Rattle.nob_model_session.specs.Right.{right_front}
 use Rattle.nob_pins.specs.Bundles.{Pinned, of_peer}
 use Rattle.nob_session.specs.Stands.{End}
 use Rattle.nob_session.proofs.Alike.{onward_is}
-use Rattle.nob_rows.specs.Rows.{IsOnce}
+use Rattle.nob_collections.specs.Rows.{IsOnce}
 use Rattle.nob_table_rows.specs.Standings.{is_surrogate}
 use Rattle.nob_table_rows.proofs.Same.{same_is, same_laws}
 use Rattle.nob_ids.specs.Names.{is_same}

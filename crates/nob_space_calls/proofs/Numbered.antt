@@ -11,11 +11,11 @@ use Rattle.nob_model_work.specs.declared.work.Stage.{Stage}
 use Rattle.nob_model_work.specs.declared.work.Stage.TheVariants.{Sent, Answered, Ended}
 use Rattle.nob_model_work.specs.Work.{is_call, stage_after_reply, call_after_reply, call_after_close, is_reply_from}
 use Rattle.nob_model_types.specs.declared.message.Message.{Message}
-use Rattle.nob_slots.specs.Numbers.{NumberLists, numbers_of, IsAboveAll, Puts}
-use Rattle.nob_slots.proofs.Numbering.{lower_differs, differs_turned, absent_entry}
-use Rattle.nob_slots.proofs.Rising.{rising_push}
-use Rattle.nob_slots.specs.Slots as slots
-use Rattle.nob_slots.specs.Slots.{item_at, is_number, IsRising}
+use Rattle.nob_collections.specs.Numbers.{NumberLists, numbers_of, IsAboveAll, Puts}
+use Rattle.nob_collections.proofs.Numbering.{lower_differs, differs_turned, absent_entry}
+use Rattle.nob_collections.proofs.Rising.{rising_push}
+use Rattle.nob_collections.specs.Slots as slots
+use Rattle.nob_collections.specs.Slots.{item_at, is_number, IsRising}
 use Rattle.nob_space_calls.specs.Calls.{IsAbove}
 use Rattle.nob_space_calls.specs.Rows.{calls_in, numbers_to, changed_at, changed, AreRows}
 

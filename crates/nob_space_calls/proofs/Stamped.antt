@@ -10,10 +10,10 @@ use Rattle.nob_item.specs.declared.item.Item.TheVariants as items
 use Rattle.nob_model_types.specs.declared.message.Message.{Message}
 use Rattle.nob_model_types.specs.Messages.{replies_to}
 use Rattle.nob_model_work.specs.Work.{is_reply_from, without_first}
-use Rattle.nob_slots.specs.Slots as slots
-use Rattle.nob_slots.specs.Slots.{item_at, is_number, IsRising}
-use Rattle.nob_slots.proofs.Numbering.{lower_differs}
-use Rattle.nob_slots.proofs.Rising as rising
+use Rattle.nob_collections.specs.Slots as slots
+use Rattle.nob_collections.specs.Slots.{item_at, is_number, IsRising}
+use Rattle.nob_collections.proofs.Numbering.{lower_differs}
+use Rattle.nob_collections.proofs.Rising as rising
 use Rattle.nob_space_calls.proofs.Numbered.{all_removed, rising_removed}
 use Rattle.nob_space_calls.specs.Calls.{is_reply}
 use Rattle.nob_space_calls.specs.Rows.{replies_in, first_stamp, reply_count, Writes, one_more, Notes, next_first, AreFirsts, AreReady}

@@ -6,9 +6,9 @@ use Rattle.nob_item.specs.declared.item.Item.{Item}
 use Rattle.nob_model_types.specs.declared.message.Message.{Message}
 use Rattle.nob_model_types.specs.Messages.{replies_to}
 use Rattle.nob_model_work.specs.declared.work.OwnCall.{OwnCall}
-use Rattle.nob_slots.specs.Numbers.{NumberLists, numbers_of}
-use Rattle.nob_slots.specs.Slots as slots
-use Rattle.nob_slots.specs.Slots.{item_at, is_number, IsRising}
+use Rattle.nob_collections.specs.Numbers.{NumberLists, numbers_of}
+use Rattle.nob_collections.specs.Slots as slots
+use Rattle.nob_collections.specs.Slots.{item_at, is_number, IsRising}
 use Rattle.nob_space_calls.specs.Calls.{is_reply}
 use Rattle.nob_space_calls.specs.declared.firsts.First.{First}
 

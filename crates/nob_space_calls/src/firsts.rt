@@ -1,7 +1,7 @@
 //! Which ready reply to a call is the first.
 
 ghost use Rattle.std.specs.Prelude.{◌≡◌, ◌+◌, ◌<◌, ◌≤◌, [], None, Some, IsSome, IsOk, OnOk};
-ghost use Rattle.nob_slots.specs.Slots.{item_at};
+ghost use Rattle.nob_collections.specs.Slots.{item_at};
 ghost use Rattle.nob_space_calls.specs.declared.firsts.First.{First};
 ghost use Rattle.nob_space_calls.specs.Rows.{Writes};
 

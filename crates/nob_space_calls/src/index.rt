@@ -1,15 +1,15 @@
 //! How the first ready replies are kept, as replies come and go.
 
 ghost use Rattle.std.specs.Prelude.{◌≡◌, ◌+◌, ◌<◌, ◌≤◌, true, None, IsSome};
-ghost use Rattle.nob_slots.specs.Slots.{item_at};
+ghost use Rattle.nob_collections.specs.Slots.{item_at};
 ghost use Rattle.nob_space_calls.specs.Rows.{Writes, one_more, Notes, next_first, first_stamp};
 
 use crate::firsts::{First, Firsts};
+use nob_collections::Slots;
 use nob_ids::CallNo;
 use nob_item::Item;
 use nob_model_types::Message;
 use nob_model_types::message::replies_to;
-use nob_slots::Slots;
 
 // One more reply to a call is ready, under a stamp above those of the others: two look-ups.
 fn note_reply(firsts: &mut Firsts, call: CallNo, stamp: u64)

@@ -8,11 +8,11 @@ ghost use Rattle.nob_space_calls.specs.Calls as words;
 
 use crate::firsts::Firsts;
 use crate::index::{note, renew, stamp_if};
+use nob_collections::Slots;
 use nob_ids::{CallNo, SpaceId};
 use nob_item::Item;
 use nob_model_types::Message;
 use nob_model_types::message::replies_to;
-use nob_slots::Slots;
 use std::alloc::{AllocError, Global};
 use std::marker::Model;
 

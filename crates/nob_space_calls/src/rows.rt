@@ -4,14 +4,14 @@ ghost use Rattle.std.specs.Prelude.{◌≡◌, ◌+◌, ◌<◌, ◌≤◌, ◌^
 ghost use Rattle.std.specs.List.{list_any};
 ghost use Rattle.nob_model_work.specs.Work.{is_call, stage_after_reply, call_after_reply, call_after_close};
 ghost use Rattle.nob_model_acting.specs.Acting.{awaits_reply, is_sent};
-ghost use Rattle.nob_slots.specs.Slots.{item_at};
+ghost use Rattle.nob_collections.specs.Slots.{item_at};
 ghost use Rattle.nob_space_calls.specs.Calls.{IsAbove};
 ghost use Rattle.nob_space_calls.specs.Rows.{changed_at, changed};
 
 use crate::ready::Ready;
+use nob_collections::{NumberIter, Numbers, Slots};
 use nob_ids::{CallNo, SpaceId};
 use nob_model_work::{OwnCall, Stage};
-use nob_slots::{NumberIter, Numbers, Slots};
 use std::alloc::{AllocError, Global};
 use std::marker::Model;
 

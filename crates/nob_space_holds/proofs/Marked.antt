@@ -3,7 +3,7 @@ use Rattle.std.proofs.Common.{◌≡◌, ℕ, ◌+◌, true, false, [], if◌the
 use Rattle.nob_ids.specs.declared.wire_rep.WireRep.{WireRep}
 use Rattle.nob_table_rows.specs.declared.standing.Standing.{Standing}
 use Rattle.nob_table_rows.specs.Counts.{is_held}
-use Rattle.nob_rows.specs.Rows.{row_at}
+use Rattle.nob_collections.specs.Rows.{row_at}
 use Rattle.nob_table_rows.specs.Objects.{is_marked}
 use Rattle.nob_table_rows.specs.Order.{place_in}
 use Rattle.nob_table_rows.specs.Standings.{is_live, is_surrogate}

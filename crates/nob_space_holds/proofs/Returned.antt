@@ -13,7 +13,7 @@ use Rattle.nob_table_rows.specs.declared.counts.Counts.{Counts}
 use Rattle.nob_table_rows.specs.declared.counts.Part.TheVariants.{Lent}
 use Rattle.nob_table_rows.specs.declared.standing.Standing.{Standing}
 use Rattle.nob_table_rows.specs.Counts.{is_held, fewer}
-use Rattle.nob_rows.specs.Rows.{row_at}
+use Rattle.nob_collections.specs.Rows.{row_at}
 use Rattle.nob_table_rows.specs.Standings.{is_known, after_release}
 use Rattle.nob_table.specs.Table.{Table, standing, was_given, Becomes, ChangeLeaves, release_fault}
 use Rattle.nob_table_rows.proofs.Same.{same_laws}

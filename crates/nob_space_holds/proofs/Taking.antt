@@ -7,7 +7,7 @@ use Rattle.nob_table_rows.specs.declared.counts.Counts.{Counts}
 use Rattle.nob_table_rows.specs.declared.counts.Part.TheVariants.{Hand, Lent}
 use Rattle.nob_table_rows.specs.declared.standing.Standing.{Standing}
 use Rattle.nob_table_rows.specs.Counts.{is_held, more, fewer}
-use Rattle.nob_rows.specs.Rows.{row_at}
+use Rattle.nob_collections.specs.Rows.{row_at}
 use Rattle.nob_table_rows.specs.Standings.{is_known, after_hold, after_release}
 use Rattle.nob_table.specs.Table.{Table, standing, was_given, Becomes, ChangeLeaves, hold_fault, release_fault}
 use Rattle.nob_table_rows.proofs.Same.{same_is, same_refl}

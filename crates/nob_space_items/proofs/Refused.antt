@@ -20,7 +20,7 @@ use Rattle.nob_model_session.specs.declared.entry.EndEntry.{EndEntry}
 use Rattle.nob_model_session.specs.declared.entry.EndEntry.TheVariants as ends
 use Rattle.nob_session.specs.Stands.{End}
 use Rattle.nob_session.proofs.Alike.{onward_is}
-use Rattle.nob_rows.specs.Rows.{IsOnce, reps_of, row_at}
+use Rattle.nob_collections.specs.Rows.{IsOnce, reps_of, row_at}
 use Rattle.nob_table_rows.specs.declared.standing.Surrogate.{Surrogate}
 use Rattle.nob_table_rows.specs.Standings as standings
 use Rattle.nob_table_rows.specs.declared.standing.State.TheVariants as states

@@ -4,7 +4,7 @@ use Rattle.std.specs.List.{list_all}
 use Rattle.nob_ids.specs.declared.wire_rep.WireRep.{WireRep}
 use Rattle.nob_session.specs.Stands.{Roomy}
 use Rattle.nob_table_rows.specs.Standings.{is_surrogate, is_granted}
-use Rattle.nob_rows.specs.Rows.{IsOnce}
+use Rattle.nob_collections.specs.Rows.{IsOnce}
 use Rattle.nob_table.specs.Table.{Table, standing, surrogate_total, place_of}
 use Rattle.nob_model_session.specs.End.{last_item}
 use Rattle.nob_model_types.specs.declared.refusal.Refusal.{Refusal}

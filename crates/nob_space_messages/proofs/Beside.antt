@@ -6,7 +6,7 @@ use Rattle.std.specs.Map.{remove_entry}
 use Rattle.std.specs.Option.{option_map}
 use Rattle.nob_space_messages.specs.declared.entry.Entry.{Entry}
 use Rattle.nob_model_acting.specs.Candidates.{target_of}
-use Rattle.nob_slots.specs.Slots.{item_at, is_number, IsAbove, IsRising}
+use Rattle.nob_collections.specs.Slots.{item_at, is_number, IsAbove, IsRising}
 use Rattle.nob_space_messages.specs.declared.links.Link.{Link}
 use Rattle.nob_space_messages.specs.InLine.{target_at, with_at}
 use Rattle.nob_space_messages.specs.Rows.{SameTargets, message_target}

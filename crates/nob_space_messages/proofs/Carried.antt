@@ -8,7 +8,7 @@ use Rattle.std.specs.Map.{remove_entry}
 use Rattle.nob_ids.specs.declared.wire_rep.WireRep.{WireRep}
 use Rattle.nob_model_types.specs.declared.message.Message.{Message}
 use Rattle.nob_model_types.specs.declared.message.RefCopy.{RefCopy}
-use Rattle.nob_slots.specs.Slots.{item_at, is_number}
+use Rattle.nob_collections.specs.Slots.{item_at, is_number}
 use Rattle.nob_space_messages.specs.declared.entry.Entry.{Entry}
 use Rattle.nob_space_messages.specs.Copies.{AreCarried, AreFew, copies_in, copies_of, count_at}
 use Rattle.nob_space_messages.specs.Lines.{items_of}

@@ -8,7 +8,7 @@ use Rattle.std.proofs.lemmas.Option.{get_or_from_slice_get, slice_get_within}
 use Rattle.std.specs.Option.{option_map_or}
 use Rattle.nob_ids.specs.declared.wire_rep.WireRep.{WireRep}
 use Rattle.nob_ids.specs.Names.{is_same}
-use Rattle.nob_rows.specs.Rows.{Puts, row_at}
+use Rattle.nob_collections.specs.Rows.{Puts, row_at}
 use Rattle.nob_space_messages.specs.declared.entry.Entry.{Entry}
 use Rattle.nob_space_messages.specs.declared.owner_lines.Line.{Line}
 use Rattle.nob_space_messages.specs.Lines.{HavePlaces, LineList, is_link, link_at, lowered, once, places_for, stands, times_in, times_of}

@@ -4,8 +4,8 @@ use Prim.Native.Nat.{zero, suc}
 use Rattle.std.proofs.lemmas.Bool.Decides.{nat_tests}
 use Rattle.std.proofs.lemmas.Option.{none-some, same_Some}
 use Rattle.nob_ids.specs.declared.wire_rep.WireRep.{WireRep}
-use Rattle.nob_slots.specs.Numbers.{NumberLists, numbers_of}
-use Rattle.nob_slots.specs.Slots.{item_at, IsRising, IsAbove}
+use Rattle.nob_collections.specs.Numbers.{NumberLists, numbers_of}
+use Rattle.nob_collections.specs.Slots.{item_at, IsRising, IsAbove}
 use Rattle.nob_space_messages.specs.declared.entry.Entry.{Entry}
 use Rattle.nob_space_messages.specs.Waiting.{due_to, due_to_all, is_awaited, is_due_in}
 use Rattle.nob_space_messages.specs.Lines.{LineList, LineMap, AreAwaited, count_of, lines_of, stamp_at, AreMarked, AreWaiting, IsLined, changed, has_line, items_of, places_for, reps_in, lent_entry, link_at, open_in, stamps_from, stands, times_in}

@@ -9,7 +9,7 @@ use Rattle.nob_model_types.specs.declared.message.Message.{Message}
 use Rattle.nob_model_work.specs.declared.work.Run.{Run}
 use Rattle.nob_model_work.specs.Work.{without_first}
 use Rattle.nob_model_acting.specs.Candidates.{target_of}
-use Rattle.nob_slots.specs.Slots.{item_at, is_marked, is_number, IsFirstMarked, IsRising, NoneMarked}
+use Rattle.nob_collections.specs.Slots.{item_at, is_marked, is_number, IsFirstMarked, IsRising, NoneMarked}
 use Rattle.nob_space_messages.specs.declared.lanes.Lane.{Lane}
 use Rattle.nob_space_messages.specs.declared.links.Link.{Link}
 use Rattle.nob_space_messages.specs.Jobs.{is_free_of}

@@ -6,9 +6,9 @@ use Rattle.nob_model_types.specs.declared.message.Message.{Message}
 use Rattle.nob_model_types.specs.Messages.{is_not_from}
 use Rattle.nob_model_work.specs.declared.work.Run.{Run}
 use Rattle.nob_model_work.specs.Work.{is_run}
-use Rattle.nob_slots.proofs.Rising.{rising_push}
-use Rattle.nob_slots.specs.Numbers.{NumberLists, Puts, numbers_of}
-use Rattle.nob_slots.specs.Slots.{SlotList, item_at, is_number, IsAbove, IsRising}
+use Rattle.nob_collections.proofs.Rising.{rising_push}
+use Rattle.nob_collections.specs.Numbers.{NumberLists, Puts, numbers_of}
+use Rattle.nob_collections.specs.Slots.{SlotList, item_at, is_number, IsAbove, IsRising}
 use Rattle.nob_queues.proofs.Found.{all_removed, pushed_below, removed_rising}
 use Rattle.nob_space_messages.specs.declared.entry.Entry.{Entry}
 use Rattle.nob_space_messages.specs.declared.links.Link.{Link}

@@ -4,7 +4,7 @@ use Rattle.std.proofs.lemmas.Bool.{cases_eq, ne_eqb, and_right}
 use Rattle.std.proofs.lemmas.Cmp.{nat_eq_equiv}
 use Rattle.std.proofs.lemmas.Option.{none-some, same_Some}
 use Rattle.std.specs.Option.{option_map}
-use Rattle.nob_slots.specs.Slots.{item_at, is_marked, IsAbove}
+use Rattle.nob_collections.specs.Slots.{item_at, is_marked, IsAbove}
 use Rattle.nob_space_messages.specs.declared.lanes.Lane.{Lane}
 use Rattle.nob_space_messages.specs.declared.links.Link.{Link}
 use Rattle.nob_space_messages.specs.Lanes.{PutsLane, lane_at, last_of, or_no_jobs}

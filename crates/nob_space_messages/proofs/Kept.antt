@@ -11,8 +11,8 @@ use Rattle.std.specs.List.{IsDistinct, list_any}
 use Rattle.std.specs.Map.{keys_of}
 use Rattle.nob_ids.specs.Names.{is_same}
 use Rattle.nob_ids.specs.declared.wire_rep.WireRep.{WireRep}
-use Rattle.nob_rows.specs.Rows.{IsOnce}
-use Rattle.nob_slots.proofs.Flat.{get_set_other, get_set_same}
+use Rattle.nob_collections.specs.Rows.{IsOnce}
+use Rattle.nob_collections.proofs.Flat.{get_set_other, get_set_same}
 use Rattle.nob_space_messages.specs.declared.owner_lines.Line.{Line}
 use Rattle.nob_space_messages.specs.Lines.{AreAwaited, AreOf, AreOwners, HavePlaces, HaveRoom, LineList, LineMap, OwnerList, count_of, has_line, lines_of, lines_or_none, reps_in}
 use Rattle.nob_space_messages.proofs.Rows.{lower_unlike}

@@ -3,7 +3,7 @@ use Rattle.std.proofs.Common.{◌≡◌, ℕ, ◌+◌, ◌==◌, true, false, Li
 use Rattle.std.proofs.lemmas.Bool.{cases_eq, cases_lt, ne_eqb, eq-eqb, and_right}
 use Rattle.std.specs.Map.{remove_entry}
 use Rattle.std.specs.Option.{option_map}
-use Rattle.nob_slots.specs.Slots.{item_at, is_marked, is_number, IsRising, PutsMark}
+use Rattle.nob_collections.specs.Slots.{item_at, is_marked, is_number, IsRising, PutsMark}
 use Rattle.nob_space_messages.specs.declared.lanes.Lane.{Lane}
 use Rattle.nob_space_messages.specs.declared.links.Link.{Link}
 use Rattle.nob_space_messages.specs.Lanes.{PutsLane, if_used, lane_at}

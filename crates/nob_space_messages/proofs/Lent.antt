@@ -5,7 +5,7 @@ use Rattle.std.proofs.lemmas.Bool.Decides.{nat_tests}
 use Rattle.std.proofs.lemmas.Option.{none-some, same_Some}
 use Rattle.std.specs.Map.{set_value}
 use Rattle.nob_ids.specs.declared.wire_rep.WireRep.{WireRep}
-use Rattle.nob_slots.specs.Slots.{item_at, is_number, IsRising}
+use Rattle.nob_collections.specs.Slots.{item_at, is_number, IsRising}
 use Rattle.nob_space_messages.specs.declared.entry.Entry.{Entry}
 use Rattle.nob_space_messages.specs.Waiting.{due_to, due_to_all, granted_message}
 use Rattle.nob_space_messages.specs.Lines.{LineList, all_lent, is_standing, items_of, lent_entry, lent_where, link_at, once, stands}

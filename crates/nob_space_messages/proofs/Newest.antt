@@ -7,8 +7,8 @@ use Rattle.std.specs.Map.{remove_entry}
 use Rattle.nob_model_types.specs.declared.message.Message.{Message}
 use Rattle.nob_model_work.specs.declared.work.Run.{Run}
 use Rattle.nob_model_work.specs.Work.{is_run}
-use Rattle.nob_slots.specs.Slots as slots
-use Rattle.nob_slots.specs.Slots.{IsRising, is_number, item_at}
+use Rattle.nob_collections.specs.Slots as slots
+use Rattle.nob_collections.specs.Slots.{IsRising, is_number, item_at}
 use Rattle.nob_space_messages.specs.Jobs.{IsAbove}
 use Rattle.nob_space_messages.specs.declared.entry.Entry.{Entry}
 use Rattle.nob_space_messages.specs.Rows.{newest_first, run_of}

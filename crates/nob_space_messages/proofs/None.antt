@@ -1,8 +1,8 @@
 -- What holds where there is no message.
 use Rattle.std.proofs.Common.{◌≡◌, ℕ, ◌+◌, ◌^◌, ◌<◌, ◌≤◌, true, false, List, [], None, Some, refl, sym, ap, subst, ◌∙◌, arith, true≢false}
 use Rattle.std.proofs.lemmas.Option.{none-some}
-use Rattle.nob_slots.specs.Numbers.{NumberLists, numbers_of}
-use Rattle.nob_slots.specs.Slots.{SlotList, item_at, IsAbove, IsRising}
+use Rattle.nob_collections.specs.Numbers.{NumberLists, numbers_of}
+use Rattle.nob_collections.specs.Slots.{SlotList, item_at, IsAbove, IsRising}
 use Rattle.nob_space_messages.specs.declared.entry.Entry.{Entry}
 use Rattle.nob_space_messages.specs.declared.lanes.Lane.{Lane}
 use Rattle.nob_space_messages.specs.declared.links.Link.{Link}

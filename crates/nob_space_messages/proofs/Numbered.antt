@@ -6,7 +6,7 @@ use Rattle.std.proofs.lemmas.Option.{none-some, same_Some}
 use Rattle.std.specs.Option.{option_map_or}
 use Rattle.nob_ids.specs.declared.wire_rep.WireRep.{WireRep}
 use Rattle.nob_ids.specs.Names.{is_same}
-use Rattle.nob_rows.specs.Rows.{Puts, row_at}
+use Rattle.nob_collections.specs.Rows.{Puts, row_at}
 use Rattle.nob_space_messages.specs.declared.owner_lines.Line.{Line}
 use Rattle.nob_space_messages.specs.declared.owner_lines.Place.{Place}
 use Rattle.nob_space_messages.specs.Lines.{AreNumbered, IsFree, count_of, has_place, is_link, is_place, line_or, longer, place_of, stamp_in, stamp_of}

@@ -8,8 +8,8 @@ use Rattle.std.specs.List.{AllByRecursion}
 use Rattle.nob_ids.specs.declared.wire_rep.WireRep.{WireRep}
 use Rattle.nob_model_types.specs.declared.message.Message.{Message}
 use Rattle.nob_model_types.specs.declared.message.RefCopy.{RefCopy}
-use Rattle.nob_slots.specs.Numbers.{NumberLists, numbers_of, Puts}
-use Rattle.nob_slots.specs.Slots.{item_at, is_marked, is_number, IsAbove, IsRising, PutsMark}
+use Rattle.nob_collections.specs.Numbers.{NumberLists, numbers_of, Puts}
+use Rattle.nob_collections.specs.Slots.{item_at, is_marked, is_number, IsAbove, IsRising, PutsMark}
 use Rattle.nob_space_messages.specs.declared.entry.Entry.{Entry}
 use Rattle.nob_space_messages.specs.Waiting.{due_to, due_to_all, is_awaited, is_due, is_due_in, is_due_where, waits_for}
 use Rattle.nob_space_messages.specs.Lines.{LineList, AreAwaited, AreWaiting, has_line, places_for, reps_in, items_of, open_in, stamps_from, times_in}

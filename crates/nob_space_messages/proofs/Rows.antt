@@ -7,7 +7,7 @@ use Rattle.std.specs.List.{AllByRecursion}
 use Rattle.std.specs.Map.{set_value}
 use Rattle.std.specs.Option.{option_map}
 use Rattle.nob_model_types.specs.declared.message.Message.{Message}
-use Rattle.nob_slots.specs.Slots.{item_at, is_number, is_marked, IsAbove, IsRising, PutsMark}
+use Rattle.nob_collections.specs.Slots.{item_at, is_number, is_marked, IsAbove, IsRising, PutsMark}
 use Rattle.nob_space_messages.specs.declared.entry.Entry.{Entry}
 use Rattle.nob_space_messages.specs.Waiting.{granted_message}
 use Rattle.nob_space_messages.specs.Lines.{all_lent, changed, items_of, lowered, lowered_entry, once, AreMarked}

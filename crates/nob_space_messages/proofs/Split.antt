@@ -4,8 +4,8 @@ use Rattle.std.specs.List.{AllByRecursion, IsDistinct, list_any}
 use Rattle.nob_ids.specs.declared.wire_rep.WireRep.{WireRep}
 use Rattle.nob_ids.specs.Names.{is_same}
 use Rattle.nob_model_types.specs.declared.message.Message.{Message}
-use Rattle.nob_slots.specs.Numbers.{NumberLists}
-use Rattle.nob_slots.specs.Slots.{item_at}
+use Rattle.nob_collections.specs.Numbers.{NumberLists}
+use Rattle.nob_collections.specs.Slots.{item_at}
 use Rattle.nob_space_messages.specs.declared.entry.Entry.{Entry}
 use Rattle.nob_space_messages.specs.Waiting.{due_to}
 use Rattle.nob_space_messages.specs.Lines.{LineList, AreWaiting, has_line, open_in, times_in, times_of}

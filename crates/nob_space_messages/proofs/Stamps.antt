@@ -6,8 +6,8 @@ use Rattle.std.specs.List.{AllByRecursion}
 use Rattle.std.specs.Map.{remove_entry}
 use Rattle.nob_model_types.specs.declared.message.Message.{Message}
 use Rattle.nob_model_types.specs.Messages.{is_not_from}
-use Rattle.nob_slots.specs.Numbers.{NumberLists, numbers_of, IsAboveAll, Puts}
-use Rattle.nob_slots.specs.Slots.{item_at, is_marked, is_number, IsAbove, IsRising, PutsMark}
+use Rattle.nob_collections.specs.Numbers.{NumberLists, numbers_of, IsAboveAll, Puts}
+use Rattle.nob_collections.specs.Slots.{item_at, is_marked, is_number, IsAbove, IsRising, PutsMark}
 use Rattle.nob_space_messages.specs.declared.entry.Entry.{Entry}
 use Rattle.nob_space_messages.specs.Lines.{AreMarked, AreThere, changed, items_of, messages_at, stamps_from, with_message, without}
 use Rattle.nob_space_messages.proofs.Found.{kept, removed_found}

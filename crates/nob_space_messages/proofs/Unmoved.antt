@@ -1,8 +1,8 @@
 -- What is said of one queue holds while that queue is as it was.
 use Rattle.std.proofs.Common.{◌≡◌, ℕ, ◌<◌, List, subst, sym, ap, arith}
 use Rattle.nob_queues.specs.Queues.{QueueLists, marked_at, queue_at, room_at, rows_at}
-use Rattle.nob_slots.specs.Numbers.{NumberLists}
-use Rattle.nob_slots.specs.Slots.{SlotList}
+use Rattle.nob_collections.specs.Numbers.{NumberLists}
+use Rattle.nob_collections.specs.Slots.{SlotList}
 use Rattle.nob_space_messages.specs.declared.entry.Entry.{Entry}
 use Rattle.nob_space_messages.specs.declared.links.Link.{Link}
 use Rattle.nob_space_messages.specs.Copies.{AreCarried}

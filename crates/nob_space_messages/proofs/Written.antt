@@ -2,7 +2,7 @@
 use Rattle.std.proofs.Common.{◌≡◌, ℕ, ◌+◌, ◌==◌, ◌&&◌, ◌||◌, not, is_some, Bool, true, false, List, Option, Some, None, ◌⊎◌, inl, inr, refl, sym, ap, subst, ◌∙◌, arith, if◌then◌else◌, eqb-true, true≢false}
 use Rattle.std.proofs.lemmas.Bool.{eqb-false, and_right}
 use Rattle.std.proofs.lemmas.Cmp.{nat_eq_equiv}
-use Rattle.nob_slots.specs.Slots.{is_marked}
+use Rattle.nob_collections.specs.Slots.{is_marked}
 use Rattle.nob_space_messages.specs.declared.lanes.Lane.{Lane}
 use Rattle.nob_space_messages.specs.Lanes.{is_target}
 use Rattle.nob_space_messages.specs.Lanes.{PutsLane, if_used, is_used, lane_at}

@@ -1,7 +1,7 @@
 -- The ready jobs of each target in line under rising stamps: which come first, next before and next behind. No public clause cites this module.
 use Rattle.std.specs.Prelude.{◌≡◌, ℕ, ◌+◌, ◌<◌, ◌≤◌, ◌==◌, Bool, true, false, ◌&&◌, List, Option, Some, None, IsSome, is_some, if◌then◌else◌}
 use Rattle.std.specs.Option.{option_map, unwrap_or}
-use Rattle.nob_slots.specs.Slots.{item_at, is_marked}
+use Rattle.nob_collections.specs.Slots.{item_at, is_marked}
 use Rattle.nob_space_messages.specs.declared.lanes.Lane.{Lane}
 use Rattle.nob_space_messages.specs.declared.links.Link.{Link}
 use Rattle.nob_space_messages.specs.Lanes.{lane_at}

@@ -7,9 +7,9 @@ use Rattle.std.specs.Option.{option_map_or}
 use Rattle.nob_ids.specs.Names.{is_same}
 use Rattle.nob_ids.specs.declared.wire_rep.WireRep.{WireRep}
 use Rattle.nob_model_types.specs.declared.message.Message.{Message}
-use Rattle.nob_slots.specs.Numbers.{NumberLists, numbers_of}
-use Rattle.nob_rows.specs.Rows.{row_at}
-use Rattle.nob_slots.specs.Slots.{item_at, is_number, IsAbove, IsRising, is_marked}
+use Rattle.nob_collections.specs.Numbers.{NumberLists, numbers_of}
+use Rattle.nob_collections.specs.Rows.{row_at}
+use Rattle.nob_collections.specs.Slots.{item_at, is_number, IsAbove, IsRising, is_marked}
 use Rattle.nob_space_messages.specs.declared.entry.Entry.{Entry}
 use Rattle.nob_space_messages.specs.declared.owner_lines.Line.{Line}
 use Rattle.nob_space_messages.specs.declared.owner_lines.Place.{Place}

@@ -3,8 +3,8 @@ use Rattle.std.specs.Prelude.{◌≡◌, ℕ, ◌+◌, ◌^◌, ◌≤◌, ◌==
 use Rattle.std.specs.Option.{option_map}
 use Rattle.nob_model_work.specs.declared.work.Run.{Run}
 use Rattle.nob_model_acting.specs.Candidates.{target_of}
-use Rattle.nob_slots.specs.Numbers.{NumberLists, numbers_of}
-use Rattle.nob_slots.specs.Slots.{SlotList, item_at, IsAbove, IsRising}
+use Rattle.nob_collections.specs.Numbers.{NumberLists, numbers_of}
+use Rattle.nob_collections.specs.Slots.{SlotList, item_at, IsAbove, IsRising}
 use Rattle.nob_space_messages.specs.declared.entry.Entry.{Entry}
 use Rattle.nob_space_messages.specs.declared.links.Link.{Link}
 use Rattle.nob_space_messages.specs.InLine.{AreLinked, target_at}

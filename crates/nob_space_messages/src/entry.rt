@@ -3,7 +3,7 @@
 ghost use Rattle.std.specs.Prelude.{◌≡◌, ◌==◌, IsSome, Some};
 ghost use Rattle.std.specs.Map.{set_value};
 ghost use Rattle.nob_queues.specs.Queues.{KeepsBut, marked_at, rows_at};
-ghost use Rattle.nob_slots.specs.Slots.{item_at, is_number, PutsMark};
+ghost use Rattle.nob_collections.specs.Slots.{item_at, is_number, PutsMark};
 ghost use Rattle.nob_space_messages.specs.Lines.{with_waits};
 ghost use Rattle.nob_space_messages.specs.declared.entry.Entry.{Entry as EntryOf};
 

@@ -15,7 +15,7 @@ pub struct From<'a> {
     // The queue: one of those that there are.
     pub(crate) queue: usize,
     // The stamps of those that are left.
-    pub(crate) stamps: nob_slots::NumberIter<'a>,
+    pub(crate) stamps: nob_collections::NumberIter<'a>,
 }
 
 impl<'a> Model for From<'a> {

@@ -1,13 +1,13 @@
 //! The ready jobs of each target in line.
 
 ghost use Rattle.std.specs.Prelude.{◌≡◌, ℕ, ◌+◌, ◌<◌, ◌≤◌, ◌^◌, [], IsOk, IsSome, None, Some, Option, OnOk, if◌then◌else◌};
-ghost use Rattle.nob_slots.specs.Slots.{IsAbove};
+ghost use Rattle.nob_collections.specs.Slots.{IsAbove};
 ghost use Rattle.nob_space_messages.specs.Lanes.{is_target, lane_at, or_no_jobs, runs_in};
 ghost use Rattle.nob_space_messages.specs.InLine.{AreLinked, first_or, lane_taken, target_at, with_at};
 
 use crate::lanes::{Lane, Lanes, last_of};
 use crate::links::{Link, mark_first, set_before, set_behind};
-use nob_slots::Slots;
+use nob_collections::Slots;
 use std::alloc::{AllocError, Global};
 
 /// What stands beside the messages of the ready jobs.

@@ -2,7 +2,7 @@
 
 ghost use Rattle.std.specs.Prelude.{◌≡◌, ◌+◌, ◌<◌, ◌^◌, true};
 ghost use Rattle.nob_queues.specs.Queues.{KeepsBut, marked_at, rows_at};
-ghost use Rattle.nob_slots.specs.Slots.{IsRising, is_number};
+ghost use Rattle.nob_collections.specs.Slots.{IsRising, is_number};
 ghost use Rattle.nob_space_messages.specs.Waiting as words;
 ghost use Rattle.nob_space_messages.specs.Lines.{AreMarked, IsLined, all_lent, is_standing, items_of, lent_where};
 

@@ -5,7 +5,7 @@ ghost use Rattle.std.specs.List.{list_any};
 ghost use Rattle.std.specs.Map.{keys_of};
 ghost use Rattle.nob_ids.specs.Names.{is_same};
 ghost use Rattle.nob_ids.specs.declared.wire_rep.WireRep.{WireRep as WireRepOf};
-ghost use Rattle.nob_rows.specs.Rows.{IsOnce};
+ghost use Rattle.nob_collections.specs.Rows.{IsOnce};
 ghost use Rattle.nob_space_messages.specs.Lines.{AreAwaited, has_line, is_link, lines_of, link_at, places_for, reps_in};
 
 use crate::owner_lines::OwnerLines;

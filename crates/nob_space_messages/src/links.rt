@@ -1,11 +1,11 @@
 //! What stands beside each ready job.
 
 ghost use Rattle.std.specs.Prelude.{◌≡◌, ℕ, ◌==◌, IsSome, Some, Option, if◌then◌else◌};
-ghost use Rattle.nob_slots.specs.Slots.{item_at, is_marked};
+ghost use Rattle.nob_collections.specs.Slots.{item_at, is_marked};
 ghost use Rattle.nob_space_messages.specs.InLine.{MarksFirst, before_at, behind_at, target_at, with_if};
 
 use crate::lanes::Lane;
-use nob_slots::Slots;
+use nob_collections::Slots;
 
 /// The target of a ready job, and the stamps of the ready jobs of that target that stand next before
 /// and behind it.

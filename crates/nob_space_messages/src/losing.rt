@@ -5,9 +5,9 @@ ghost use Rattle.std.specs.List.{list_any};
 ghost use Rattle.std.specs.Map.{keys_of};
 ghost use Rattle.nob_ids.specs.Names.{is_same};
 ghost use Rattle.nob_ids.specs.declared.wire_rep.WireRep.{WireRep as WireRepOf};
-ghost use Rattle.nob_rows.specs.Rows.{IsOnce};
+ghost use Rattle.nob_collections.specs.Rows.{IsOnce};
 ghost use Rattle.nob_queues.specs.Queues.{KeepsBut, marked_at, rows_at};
-ghost use Rattle.nob_slots.specs.Slots.{IsRising};
+ghost use Rattle.nob_collections.specs.Slots.{IsRising};
 ghost use Rattle.nob_space_messages.specs.Lines.{AreMarked, has_line, lines_of, lowered, once, times_in, times_of};
 
 use crate::entry::{Entry, WAITING, write_waits};

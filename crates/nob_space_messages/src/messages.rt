@@ -22,11 +22,11 @@ use crate::losing::{lower_all, lower_line};
 use crate::ready::{self, Ready};
 use crate::taking::drop_jobs;
 use crate::waits::{Waits, drop_all, line_up};
+use nob_collections::Numbers;
 use nob_ids::{JobNo, SpaceId, WireRep};
 use nob_model_acting::candidates::target_of;
 use nob_model_types::Message;
 use nob_queues::Queues;
-use nob_slots::Numbers;
 use std::alloc::{AllocError, Global};
 use std::marker::Model;
 

@@ -5,13 +5,13 @@ ghost use Rattle.std.specs.Map.{keys_of};
 ghost use Rattle.indexmap.specs.IndexMap.{spare};
 ghost use Rattle.nob_ids.specs.Names.{is_same};
 ghost use Rattle.nob_ids.specs.declared.wire_rep.WireRep.{WireRep as WireRepOf};
-ghost use Rattle.nob_rows.specs.Rows.{IsOnce, Puts, row_at};
+ghost use Rattle.nob_collections.specs.Rows.{IsOnce, Puts, row_at};
 ghost use Rattle.nob_space_messages.specs.Lines.{HavePlaces, count_of, has_place, is_link, line_or, longer, place_of, stamp_at, stamp_of};
 ghost use Rattle.nob_space_messages.specs.declared.owner_lines.Place.{Place as PlaceOf};
 
 use indexmap::IndexMap;
+use nob_collections::Rows;
 use nob_ids::WireRep;
-use nob_rows::Rows;
 use std::alloc::{AllocError, Global};
 use std::marker::Model;
 

@@ -1,7 +1,7 @@
 //! What stands beside the ready jobs.
 
 use crate::in_line::InLine;
-use nob_slots::Numbers;
+use nob_collections::Numbers;
 
 /// The most stamps that there can be.
 pub const MOST: u64 = 1 << 60;

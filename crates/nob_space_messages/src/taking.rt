@@ -3,8 +3,8 @@
 ghost use Rattle.std.specs.Prelude.{◌≡◌, ℕ, ◌≤◌};
 ghost use Rattle.std.specs.Map.{remove_entry};
 ghost use Rattle.nob_queues.specs.Queues.{KeepsBut, rows_at};
-ghost use Rattle.nob_slots.specs.Numbers.{numbers_of};
-ghost use Rattle.nob_slots.specs.Slots.{is_number, IsRising};
+ghost use Rattle.nob_collections.specs.Numbers.{numbers_of};
+ghost use Rattle.nob_collections.specs.Slots.{is_number, IsRising};
 ghost use Rattle.nob_space_messages.specs.InLine.{AreLinked};
 ghost use Rattle.nob_space_messages.specs.Lanes.{lane_at, runs_in};
 ghost use Rattle.nob_space_messages.specs.Lines.{without};
@@ -12,9 +12,9 @@ ghost use Rattle.nob_space_messages.specs.Rows.{SameTargets};
 
 use crate::entry::{Entry, READY};
 use crate::in_line::InLine;
+use nob_collections::Numbers;
 use nob_ids::SpaceId;
 use nob_queues::Queues;
-use nob_slots::Numbers;
 
 // Takes the job under a stamp out.
 fn drop_job(queues: &mut Queues<Entry>, lines: &mut InLine, stamp: u64)

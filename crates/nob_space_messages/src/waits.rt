@@ -6,8 +6,8 @@ ghost use Rattle.std.specs.Map.{remove_entry};
 ghost use Rattle.nob_ids.specs.Names.{is_same};
 ghost use Rattle.nob_ids.specs.declared.wire_rep.WireRep.{WireRep as WireRepOf};
 ghost use Rattle.nob_queues.specs.Queues.{KeepsBut, marked_at, rows_at};
-ghost use Rattle.nob_slots.specs.Numbers.{numbers_of};
-ghost use Rattle.nob_slots.specs.Slots.{is_number, IsRising, PutsMark};
+ghost use Rattle.nob_collections.specs.Numbers.{numbers_of};
+ghost use Rattle.nob_collections.specs.Slots.{is_number, IsRising, PutsMark};
 ghost use Rattle.nob_space_messages.specs.Copies.{AreCarried};
 ghost use Rattle.nob_space_messages.specs.Lines.{AreAwaited, AreMarked, items_of, places_for, times_in, without};
 ghost use Rattle.nob_space_messages.specs.Waiting.{is_due, waits_for};
@@ -17,10 +17,10 @@ use crate::entry::{Entry, WAITING};
 use crate::lending::is_due;
 use crate::lines::Lines;
 use crate::owners::OWNERS;
+use nob_collections::Numbers;
 use nob_ids::SpaceId;
 use nob_model_types::message::RefCopy;
 use nob_queues::Queues;
-use nob_slots::Numbers;
 
 /// What stands beside the messages that wait.
 ///

@@ -17,7 +17,7 @@ use Rattle.nob_table_rows.specs.declared.fault.TableFault.{TableFault}
 use Rattle.nob_table_rows.specs.declared.fault.TableFault.TheVariants.{Absent, StillUsed, Limit}
 use Rattle.nob_table_rows.specs.declared.fault.TableError.TheVariants as errors
 use Rattle.nob_table_rows.specs.Counts as table_counts
-use Rattle.nob_rows.specs.Rows.{IsOnce}
+use Rattle.nob_collections.specs.Rows.{IsOnce}
 use Rattle.nob_table_rows.specs.Standings.{is_live, withdrawn, exported_standing}
 use Rattle.nob_table.specs.Table as table
 use Rattle.nob_table.specs.Table.{Table, standing, live_reps, own, withdraw_fault, export_fault, IsRefusal, Becomes, SetsKept, is_kept, ExportLeaves, WithdrawalLeaves, SameSurrogates}

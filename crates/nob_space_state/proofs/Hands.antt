@@ -6,7 +6,7 @@ use Rattle.nob_ids.specs.Names.{is_same}
 use Rattle.nob_ids.specs.declared.limits.Limits.{Limits}
 use Rattle.nob_ids.specs.declared.wire_rep.WireRep.{WireRep}
 use Rattle.nob_table_rows.specs.declared.counts.Part.TheVariants.{Hand}
-use Rattle.nob_rows.specs.Rows.{row_at}
+use Rattle.nob_collections.specs.Rows.{row_at}
 use Rattle.nob_table_rows.specs.Standings.{is_known}
 use Rattle.nob_table.specs.Table.{Table, standing, was_given, hold_fault, release_fault}
 use Rattle.nob_model_types.specs.declared.answer.Answer.TheVariants as answers

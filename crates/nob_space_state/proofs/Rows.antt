@@ -10,7 +10,7 @@ use Rattle.nob_table_rows.specs.declared.standing.Grant.TheVariants as grants
 use Rattle.nob_table_rows.specs.declared.standing.Standing.{Standing}
 use Rattle.nob_table_rows.specs.declared.standing.Surrogate.{Surrogate}
 use Rattle.nob_table_rows.specs.Counts.{no_counts}
-use Rattle.nob_rows.specs.Rows.{row_at, IsOnce}
+use Rattle.nob_collections.specs.Rows.{row_at, IsOnce}
 use Rattle.nob_table_rows.specs.Standings.{is_live, is_surrogate, own_standing, far_standing, state_of}
 use Rattle.nob_table.specs.Table.{Table, standing, live_reps, was_given, Becomes, SameSurrogates}
 use Rattle.nob_table_rows.proofs.Same.{same_laws, same_is}

@@ -15,7 +15,7 @@ use Rattle.nob_table_rows.specs.declared.standing.Surrogate.{Surrogate}
 use Rattle.nob_table.specs.Far.{is_current, is_idle_in, is_spare_in, AreInOrder, AreSent, ArePassing, AreLinked, AreEnds, IsOrdered}
 use Rattle.nob_table_rows.specs.Order.{place_in}
 use Rattle.nob_table_rows.proofs.Flat.{filter_had, filter_has}
-use Rattle.nob_rows.specs.Rows.{row_at, reps_of}
+use Rattle.nob_collections.specs.Rows.{row_at, reps_of}
 use Rattle.nob_table_rows.proofs.Same.{same_is, same_laws, key_there}
 use Rattle.nob_table.proofs.Slotted.{placed, placed_is}
 

@@ -1,11 +1,11 @@
 -- What holds of the references to other spaces' objects still holds.
 use Rattle.std.proofs.Common.{◌≡◌, ℕ, ◌≤◌, ◌+◌, ◌==◌, length, Option, Some, None, IfSome, slice_get, if◌then◌else◌, refl, sym, ap, subst, ◌∙◌, arith, vec_capacity}
-use Rattle.nob_slots.specs.Marks.{has, bound}
+use Rattle.nob_collections.specs.Marks.{has, bound}
 use Rattle.nob_ids.specs.declared.wire_rep.WireRep.{WireRep}
 use Rattle.nob_table_rows.specs.declared.counts.Counts.{Counts}
 use Rattle.nob_table.specs.declared.order.Order.{Order}
 use Rattle.nob_table.specs.Far.{MarkedRows, is_idle_in, is_spare_in, passes_slot, ArePassing, IsOrdered, IsFar}
-use Rattle.nob_rows.specs.Rows.{RowList, IsOnce, row_at, Puts}
+use Rattle.nob_collections.specs.Rows.{RowList, IsOnce, row_at, Puts}
 use Rattle.nob_table_rows.specs.declared.standing.Surrogate.{Surrogate}
 use Rattle.nob_table_rows.specs.Objects.{is_marked}
 use Rattle.std.specs.Option.{option_map}

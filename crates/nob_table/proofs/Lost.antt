@@ -7,7 +7,7 @@ use Rattle.std.proofs.lemmas.Option.{none-some, same_Some, slice_get_within}
 use Rattle.std.specs.Option.{option_map}
 use Rattle.nob_ids.specs.declared.wire_rep.WireRep.{WireRep}
 use Rattle.nob_ids.specs.Names.{is_same}
-use Rattle.nob_slots.specs.Marks.{has}
+use Rattle.nob_collections.specs.Marks.{has}
 use Rattle.nob_table_rows.specs.declared.counts.Counts.{Counts}
 use Rattle.nob_table.specs.declared.order.Slot.{Slot}
 use Rattle.nob_table_rows.specs.declared.standing.Surrogate.{Surrogate}
@@ -15,7 +15,7 @@ use Rattle.nob_table_rows.specs.Counts.{is_held}
 use Rattle.nob_table.specs.Far.{has_place, is_current, is_idle_in, is_spare_in, passes_slot, is_closed, ArePassing, Covers, IsOrdered, HaveMarks, KeepMarks}
 use Rattle.nob_table_rows.specs.Objects.{is_marked}
 use Rattle.nob_table_rows.specs.Order.{place_in}
-use Rattle.nob_rows.specs.Rows.{row_at, Puts, keep_if}
+use Rattle.nob_collections.specs.Rows.{row_at, Puts, keep_if}
 use Rattle.nob_table_rows.proofs.Flat.{get_set_other, set_is_written}
 use Rattle.nob_table_rows.proofs.Keys.{put_there}
 use Rattle.nob_table_rows.proofs.Same.{same_is}

@@ -5,7 +5,7 @@ use Rattle.std.specs.Map.{lookup, set_value}
 use Rattle.std.specs.Option.{option_map}
 use Rattle.nob_ids.specs.declared.wire_rep.WireRep.{WireRep}
 use Rattle.nob_ids.specs.Names.{is_same}
-use Rattle.nob_rows.specs.Rows.{row_at, Puts}
+use Rattle.nob_collections.specs.Rows.{row_at, Puts}
 use Rattle.nob_table_rows.specs.Objects.{is_marked, SameMarks}
 use Rattle.nob_table_rows.specs.declared.standing.Surrogate.{Surrogate}
 use Rattle.nob_table.specs.Far.{surrogates_in, marks_in}

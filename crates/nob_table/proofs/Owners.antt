@@ -5,7 +5,7 @@ use Rattle.std.proofs.lemmas.Cmp.{nat_eq_equiv}
 use Rattle.std.proofs.lemmas.Option.{none-some}
 use Rattle.std.specs.Option.{option_map}
 use Rattle.nob_ids.specs.declared.wire_rep.WireRep.{WireRep}
-use Rattle.nob_rows.specs.Rows.{row_at, HasOf, HasNoneOf}
+use Rattle.nob_collections.specs.Rows.{row_at, HasOf, HasNoneOf}
 use Rattle.nob_table_rows.specs.declared.counts.Counts.{Counts}
 use Rattle.nob_table_rows.specs.declared.standing.Grant.{Grant}
 use Rattle.nob_table_rows.specs.declared.standing.Grant.TheVariants as grants

@@ -9,7 +9,7 @@ use Rattle.nob_table.specs.declared.order.Slot.{Slot}
 use Rattle.nob_table_rows.specs.declared.standing.Surrogate.{Surrogate}
 use Rattle.nob_table_rows.specs.Counts.{no_counts}
 use Rattle.nob_table.specs.Far.{has_place, is_current, is_idle_in, is_spare_in, passes_slot, passes_at, AreInOrder, AreSent, HaveSlots, ArePassing, Covers, AreLinked, AreEnds}
-use Rattle.nob_rows.specs.Rows.{row_at, Puts}
+use Rattle.nob_collections.specs.Rows.{row_at, Puts}
 use Rattle.nob_table_rows.specs.Objects.{is_marked, SameMarks}
 use Rattle.nob_table_rows.specs.Standings.{waiting_surrogate}
 use Rattle.nob_table_rows.proofs.Flat.{get_push_low, get_push_here, push_cases}

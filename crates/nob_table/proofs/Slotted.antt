@@ -4,14 +4,14 @@ use Rattle.std.proofs.lemmas.Cmp.{nat_eq_equiv}
 use Rattle.std.specs.Option.{option_map}
 use Rattle.nob_ids.specs.declared.wire_rep.WireRep.{WireRep}
 use Rattle.nob_ids.specs.Names.{is_same}
-use Rattle.nob_slots.specs.Marks.{has}
+use Rattle.nob_collections.specs.Marks.{has}
 use Rattle.nob_table_rows.specs.declared.counts.Counts.{Counts}
 use Rattle.nob_table.specs.declared.order.Slot.{Slot}
 use Rattle.nob_table_rows.specs.declared.standing.Surrogate.{Surrogate}
 use Rattle.nob_table.specs.Far.{has_place, is_current, is_idle_in, is_spare_in, passes_slot, passes_at, AreInOrder, HaveSlots, ArePassing, Covers, IsOrdered}
 use Rattle.nob_table_rows.specs.Objects.{is_marked}
 use Rattle.nob_table_rows.specs.Order.{place_in}
-use Rattle.nob_rows.specs.Rows.{row_at, Puts}
+use Rattle.nob_collections.specs.Rows.{row_at, Puts}
 use Rattle.nob_table_rows.specs.Standings.{far_standing, is_idle}
 use Rattle.nob_table_rows.proofs.Parted.{same_row, point_is}
 use Rattle.nob_table_rows.proofs.Same.{same_is}

@@ -11,7 +11,7 @@ use Rattle.nob_table_rows.specs.declared.standing.Standing.{Standing}
 use Rattle.nob_table_rows.specs.declared.standing.Surrogate.{Surrogate}
 use Rattle.nob_table_rows.specs.Order.{place_in}
 use Rattle.nob_ids.specs.Names.{is_same}
-use Rattle.nob_rows.specs.Rows.{row_at, reps_of, Puts}
+use Rattle.nob_collections.specs.Rows.{row_at, reps_of, Puts}
 use Rattle.nob_table_rows.specs.Standings.{own_standing, far_standing, is_known, is_live, is_pending, is_surrogate, state_of, in_state, with_counts, with_grant}
 use Rattle.nob_table.specs.Table.{stands, was_given, IsTable}
 use Rattle.nob_table_rows.proofs.Same.{same_is}

@@ -10,7 +10,7 @@ use Rattle.nob_table_rows.specs.Counts.{is_held}
 use Rattle.nob_table_rows.specs.Objects.{is_marked}
 use Rattle.nob_table_rows.specs.Order.{place_in}
 use Rattle.nob_table.specs.Far.{is_idle_in, is_spare_in, NeverIdleIn, IsFirstIn, NeverSpareIn, IsFirstSpareIn}
-use Rattle.nob_rows.specs.Rows.{row_at, Puts, keep_if}
+use Rattle.nob_collections.specs.Rows.{row_at, Puts, keep_if}
 use Rattle.nob_table_rows.specs.Standings.{far_standing, is_idle}
 use Rattle.nob_table.specs.Table.{Table, IsTable, standing, is_kept, is_spare, NoneIdle, IsFirstIdle, NeverSpareFrom, IsFirstSpareFrom}
 use Rattle.nob_table_rows.proofs.Keys.{kept_some}

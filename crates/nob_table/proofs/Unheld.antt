@@ -5,7 +5,7 @@ use Rattle.nob_ids.specs.declared.wire_rep.WireRep.{WireRep}
 use Rattle.nob_table_rows.specs.declared.counts.Counts.{Counts}
 use Rattle.nob_table_rows.specs.Counts.{is_held}
 use Rattle.nob_table_rows.specs.Objects.{AreAllHeld, IsFirstRow, NoneSpare, IsFirstSpareRow, is_marked, is_spare_row}
-use Rattle.nob_rows.specs.Rows.{row_at}
+use Rattle.nob_collections.specs.Rows.{row_at}
 use Rattle.nob_table_rows.specs.Standings.{own_standing, is_unheld}
 use Rattle.nob_table.specs.Table.{Table, IsTable, standing, own, was_given, NeverUnheld, IsFirstUnheld, is_kept, is_spare_at, NeverSpare, IsFirstSpare}
 

@@ -3,7 +3,7 @@ use Rattle.std.specs.Prelude.{◌≡◌, ℕ, ◌+◌, ◌-◌, ◌*◌, ◌<◌
 use Rattle.std.specs.Vec.{vec_capacity}
 use Rattle.nob_ids.specs.Names.{most_spaces}
 use Rattle.nob_ids.specs.declared.wire_rep.WireRep.{WireRep}
-use Rattle.nob_slots.specs.Marks.{has, bound}
+use Rattle.nob_collections.specs.Marks.{has, bound}
 use Rattle.nob_table_rows.specs.declared.counts.Counts.{Counts}
 use Rattle.nob_table.specs.declared.order.Order.{Order}
 use Rattle.nob_table.specs.declared.order.Slot.{Slot}
@@ -12,7 +12,7 @@ use Rattle.nob_table.specs.declared.surrogates.Marked.{Marked}
 use Rattle.nob_table_rows.specs.Objects.{is_marked}
 use Rattle.nob_table_rows.specs.Order.{place_in}
 use Rattle.nob_table_rows.specs.Standings.{far_standing, is_idle}
-use Rattle.nob_rows.specs.Rows.{RowList, row_at, each_row, IsOnce}
+use Rattle.nob_collections.specs.Rows.{RowList, row_at, each_row, IsOnce}
 
 -- the references to other spaces' objects, with the room beside them
 pub record FarRows : Type 0 where

@@ -16,7 +16,7 @@ use Rattle.nob_table_rows.specs.Counts.{is_held}
 use Rattle.nob_ids.specs.Names.{is_counted, is_same}
 use Rattle.nob_table_rows.specs.Objects.{is_marked}
 use Rattle.nob_table_rows.specs.Order.{place_in, IsRising}
-use Rattle.nob_rows.specs.Rows.{row_at, reps_of}
+use Rattle.nob_collections.specs.Rows.{row_at, reps_of}
 use Rattle.nob_table_rows.specs.Standings.{is_known, is_unknown, is_live, is_pending, is_granted, is_surrogate, is_idle, is_unheld, own_standing, far_standing}
 
 -- the table of a space, with the room beside its items: how many more exports and surrogates fit without memory

@@ -7,14 +7,14 @@ ghost use Rattle.nob_table_rows.specs.Counts.{no_counts, is_held};
 ghost use Rattle.nob_table.specs.Far.{NeverIdleIn, IsFirstIn, NeverSpareIn, IsFirstSpareIn};
 ghost use Rattle.nob_table_rows.specs.Objects.{SameMarks, is_marked};
 ghost use Rattle.nob_ids.specs.Names.{is_same};
-ghost use Rattle.nob_rows.specs.Rows.{row_at, reps_of, Puts, IsOnce, HasOf, HasNoneOf, keep_if};
+ghost use Rattle.nob_collections.specs.Rows.{row_at, reps_of, Puts, IsOnce, HasOf, HasNoneOf, keep_if};
 ghost use Rattle.nob_table_rows.specs.Standings.{waiting_surrogate, with_grant};
 
 use crate::losing::lose_all;
 use crate::order::{Order, Slot};
 use crate::surrogates::Surrogates;
+use nob_collections::Rows;
 use nob_ids::{SpaceId, WireRep};
-use nob_rows::Rows;
 use nob_table_rows::{Counts, Grant, Surrogate};
 use std::alloc::{AllocError, Global};
 use std::marker::Model;
@@ -50,7 +50,7 @@ impl Model for Far {
 
     ghost use Rattle.std.specs.Prelude.{length};
     ghost use Rattle.std.specs.Vec.{vec_capacity};
-    ghost use Rattle.nob_slots.specs.Marks.{bound};
+    ghost use Rattle.nob_collections.specs.Marks.{bound};
     ghost use Rattle.nob_table.specs.Far.{IsTidyFar};
 
     ghost invariant = { λ a. IsTidyFar a.counted a.surrogates a.dirties a.order a.room };

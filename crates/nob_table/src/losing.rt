@@ -1,17 +1,16 @@
 //! What becomes of the surrogates of an owner whose session has closed.
 
 ghost use Rattle.std.specs.Prelude.{◌≡◌, ℕ, ◌==◌, ◌&&◌, ◌+◌, ◌<◌, ◌≤◌, length, slice_get, Some, None, false, if◌then◌else◌, is_some};
-ghost use Rattle.nob_slots.specs.Marks.{has, bound};
+ghost use Rattle.nob_collections.specs.Marks.{has, bound};
 ghost use Rattle.nob_ids.specs.declared.wire_rep.WireRep.{WireRep};
 ghost use Rattle.nob_table_rows.specs.Counts.{is_held};
 ghost use Rattle.nob_table.specs.Far.{IsOrdered, KeepMarks, is_closed};
-ghost use Rattle.nob_rows.specs.Rows.{row_at, Puts, IsOnce, keep_if};
+ghost use Rattle.nob_collections.specs.Rows.{row_at, Puts, IsOnce, keep_if};
 
 use crate::order::{Order, is_current, number_of};
 use crate::surrogates::Surrogates;
+use nob_collections::{Marks, Rows};
 use nob_ids::{SpaceId, WireRep};
-use nob_rows::Rows;
-use nob_slots::Marks;
 use nob_table_rows::Counts;
 
 // Forgets a surrogate, and its counts where nothing holds it.

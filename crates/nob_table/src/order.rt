@@ -2,16 +2,15 @@
 
 ghost use Rattle.std.specs.Prelude.{◌≡◌, ℕ, ◌==◌, ◌+◌, ◌*◌, ◌<◌, ◌≤◌, ◌^◌, ◌++◌, ◌∷◌, [], length, slice_get, Bool, Some, OnOk, MatchOption, filter, nat_lt, false, if◌then◌else◌, List};
 ghost use Rattle.std.specs.Vec.{vec_capacity};
-ghost use Rattle.nob_slots.specs.Marks.{has, bound};
+ghost use Rattle.nob_collections.specs.Marks.{has, bound};
 ghost use Rattle.nob_ids.specs.declared.wire_rep.WireRep.{WireRep};
 ghost use Rattle.nob_table_rows.specs.declared.counts.Counts.{Counts};
 ghost use Rattle.nob_table_rows.specs.declared.standing.Surrogate.{Surrogate};
 ghost use Rattle.nob_table.specs.Far.{most_owners, AreInOrder, AreSent, HaveMarks, HaveSlots, AreLinked, AreEnds, ArePassing, NonePassing, IsFirstPassing, IsOrdered, is_current, is_idle_in, is_spare_in, passes_slot, passes_at};
 
 use crate::surrogates::Surrogates;
+use nob_collections::{Marks, Rows};
 use nob_ids::{SpaceId, WireRep};
-use nob_rows::Rows;
-use nob_slots::Marks;
 use nob_table_rows::{Counts, Standing};
 use std::alloc::{AllocError, Global};
 

@@ -4,11 +4,11 @@ ghost use Rattle.std.specs.Prelude.{◌≡◌, ◌==◌, ◌&&◌, ◌+◌, ◌<
 ghost use Rattle.std.specs.Option.{option_map};
 ghost use Rattle.nob_ids.specs.Names.{is_same};
 ghost use Rattle.nob_ids.specs.declared.wire_rep.WireRep.{WireRep};
-ghost use Rattle.nob_rows.specs.Rows.{row_at, reps_of, Puts, IsOnce};
+ghost use Rattle.nob_collections.specs.Rows.{row_at, reps_of, Puts, IsOnce};
 ghost use Rattle.nob_table_rows.specs.Objects.{SameMarks, is_marked};
 
+use nob_collections::Rows;
 use nob_ids::{SpaceId, WireRep};
-use nob_rows::Rows;
 use nob_table_rows::Surrogate;
 use std::alloc::{AllocError, Global};
 use std::marker::Model;

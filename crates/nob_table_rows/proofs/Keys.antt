@@ -4,7 +4,7 @@ use Rattle.std.specs.List.{list_any}
 use Rattle.std.specs.Map.{lookup, keys_of}
 use Rattle.nob_ids.specs.declared.wire_rep.WireRep.{WireRep}
 use Rattle.nob_ids.specs.Names.{is_same}
-use Rattle.nob_rows.specs.Rows.{row_at, Puts, keep_if}
+use Rattle.nob_collections.specs.Rows.{row_at, Puts, keep_if}
 use Rattle.nob_table_rows.proofs.Same.{same_refl, same_is}
 
 -- a list of rows has what it has

@@ -11,7 +11,7 @@ use Rattle.nob_ids.specs.declared.wire_rep.WireRep.{WireRep}
 use Rattle.nob_table_rows.specs.declared.object.Object.{Object}
 use Rattle.nob_table_rows.specs.Objects.{with_slot, live_rows, passes_slot, AreSlots, NonePassing, IsFirstPassing}
 use Rattle.nob_table_rows.specs.Order.{IsBefore, IsRising, IsByIndex, index_of}
-use Rattle.nob_rows.specs.Rows.{row_at, reps_of, Puts, IsOnce}
+use Rattle.nob_collections.specs.Rows.{row_at, reps_of, Puts, IsOnce}
 use Rattle.nob_table_rows.proofs.Parted.{Rise, rows_before}
 use Rattle.nob_table_rows.proofs.Rising.{rising_at, rising_push}
 use Rattle.nob_table_rows.proofs.Same.{same_is, same_laws}

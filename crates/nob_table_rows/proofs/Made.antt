@@ -11,7 +11,7 @@ use Rattle.nob_table_rows.specs.declared.counts.Counts.{Counts}
 use Rattle.nob_table_rows.specs.declared.object.Object.{Object}
 use Rattle.nob_table_rows.specs.Counts.{is_held, is_unheld_object, is_spare_object}
 use Rattle.nob_table_rows.specs.Objects.{with_slot, live_rows, counts_in, kept_in, is_marked, is_spare_row, SameMarks, NonePassing, IsFirstPassing, AreAllHeld, IsFirstRow, NoneSpare, IsFirstSpareRow}
-use Rattle.nob_rows.specs.Rows.{row_at, reps_of, each_row, Puts, IsOnce}
+use Rattle.nob_collections.specs.Rows.{row_at, reps_of, each_row, Puts, IsOnce}
 use Rattle.nob_table_rows.proofs.LiveRows.{Slots}
 use Rattle.nob_table_rows.proofs.Same.{same_is}
 

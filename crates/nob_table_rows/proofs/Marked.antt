@@ -9,11 +9,11 @@ use Rattle.std.proofs.lemmas.Option.{none-some, same_Some, slice_get_within}
 use Rattle.std.specs.Map.{set_value}
 use Rattle.nob_ids.specs.Names.{is_same}
 use Rattle.nob_ids.specs.declared.wire_rep.WireRep.{WireRep}
-use Rattle.nob_slots.specs.Marks.{has, NoneIn, NoneFrom, IsFirst}
+use Rattle.nob_collections.specs.Marks.{has, NoneIn, NoneFrom, IsFirst}
 use Rattle.nob_table_rows.specs.declared.object.Object.{Object}
 use Rattle.nob_table_rows.specs.Objects.{live_rows, passes_slot, passes_at, ArePassing, NonePassing, IsFirstPassing}
 use Rattle.nob_table_rows.specs.Order.{IsByIndex}
-use Rattle.nob_rows.specs.Rows.{row_at, reps_of, IsOnce}
+use Rattle.nob_collections.specs.Rows.{row_at, reps_of, IsOnce}
 use Rattle.nob_table_rows.proofs.Flat.{get_set_same, get_set_other, get_push_here, get_push_other}
 use Rattle.nob_table_rows.proofs.Parted.{point_is}
 use Rattle.nob_table_rows.proofs.Same.{same_is, same_refl, same_laws}

@@ -7,7 +7,7 @@ use Rattle.nob_ids.specs.Names.{is_same}
 use Rattle.nob_table_rows.specs.Order.{IsBefore, IsRising}
 use Rattle.std.specs.Set.{remove_key}
 use Prim.Native.Nat.{zero, suc}
-use Rattle.nob_rows.specs.Rows.{without}
+use Rattle.nob_collections.specs.Rows.{without}
 use Rattle.nob_table_rows.proofs.Same.{same_refl}
 
 -- what is in the tail is in the list

@@ -6,8 +6,8 @@ use Rattle.nob_table_rows.specs.declared.counts.Counts.{Counts}
 use Rattle.nob_table_rows.specs.declared.object.Object.{Object}
 use Rattle.nob_table_rows.specs.Counts.{is_held, is_unheld_object, is_spare_object}
 use Rattle.nob_table_rows.specs.Order.{IsByIndex}
-use Rattle.nob_rows.specs.Rows.{RowList, row_at, reps_of, each_row, IsOnce}
-use Rattle.nob_slots.specs.Marks.{has, bound}
+use Rattle.nob_collections.specs.Rows.{RowList, row_at, reps_of, each_row, IsOnce}
+use Rattle.nob_collections.specs.Marks.{has, bound}
 
 -- the live objects with their counts, how many indexes were given, and the room beside them
 pub record Exports : Type 0 where

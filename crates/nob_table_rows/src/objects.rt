@@ -5,18 +5,18 @@ ghost use Rattle.std.specs.Map.{set_value};
 ghost use Rattle.std.specs.Option.{option_map};
 ghost use Rattle.nob_ids.specs.Names.{is_same};
 ghost use Rattle.nob_ids.specs.declared.wire_rep.WireRep.{WireRep};
-ghost use Rattle.nob_slots.specs.Marks.{has, bound};
+ghost use Rattle.nob_collections.specs.Marks.{has, bound};
 ghost use Rattle.nob_table_rows.specs.declared.object.Object.{Object};
 ghost use Rattle.nob_table_rows.specs.Counts.{is_unheld_object, is_spare_object};
 ghost use Rattle.nob_table_rows.specs.Objects.{AreAllHeld, ArePassing, IsFirstPassing, IsFirstRow, IsFirstSpareRow, NonePassing, NoneSpare, SameMarks, is_marked, live_rows, passes_at, passes_slot};
 ghost use Rattle.nob_table_rows.specs.Order.{IsByIndex};
-ghost use Rattle.nob_rows.specs.Rows.{row_at, reps_of, Puts, IsOnce};
+ghost use Rattle.nob_collections.specs.Rows.{row_at, reps_of, Puts, IsOnce};
 
 use crate::counts::Counts;
 use crate::object::Object;
 use crate::slots::Slots;
+use nob_collections::Marks;
 use nob_ids::{SpaceId, WireRep};
-use nob_slots::Marks;
 use std::alloc::{AllocError, Global};
 use std::marker::Model;
 

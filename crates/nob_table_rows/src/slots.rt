@@ -7,7 +7,7 @@ ghost use Rattle.nob_ids.specs.Names.{is_same};
 ghost use Rattle.nob_ids.specs.declared.wire_rep.WireRep.{WireRep};
 ghost use Rattle.nob_table_rows.specs.declared.object.Object.{Object};
 ghost use Rattle.nob_table_rows.specs.Order.{IsBefore, IsByIndex, index_of};
-ghost use Rattle.nob_rows.specs.Rows.{row_at, reps_of, Puts, IsOnce};
+ghost use Rattle.nob_collections.specs.Rows.{row_at, reps_of, Puts, IsOnce};
 
 use crate::object::Object;
 use nob_ids::WireRep;
@@ -25,7 +25,7 @@ impl Model for Slots {
     ghost use Rattle.std.specs.Vec.{vec_capacity};
     ghost use Rattle.nob_table_rows.specs.declared.object.Object.{Object};
     ghost use Rattle.nob_table_rows.specs.Order.{IsByIndex};
-    ghost use Rattle.nob_rows.specs.Rows.{RowList, reps_of};
+    ghost use Rattle.nob_collections.specs.Rows.{RowList, reps_of};
 
     ghost Value = { RowList (Option Object) };
 

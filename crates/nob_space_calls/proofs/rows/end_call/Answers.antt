@@ -1,7 +1,7 @@
 use Rattle.std.proofs.Common.{option_copied, sym, ap, ◌∙◌}
 use Rattle.std.specs.Map.{set_value}
 use Rattle.nob_model_work.specs.Work.{call_after_close}
-use Rattle.nob_slots.specs.Slots.{is_number}
+use Rattle.nob_collections.specs.Slots.{is_number}
 use Rattle.nob_space_calls.proofs.Numbered.{changed_none, changed_some}
 use Rattle.nob_space_calls.proofs.rows.end_call.Goals as goal
 

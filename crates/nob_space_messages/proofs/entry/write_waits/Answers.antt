@@ -3,7 +3,7 @@ use Rattle.std.proofs.lemmas.Option.{same_Some}
 use Rattle.std.specs.Map.{set_value}
 use Rattle.nob_queues.specs.Queues.{marked_at, rows_at}
 use Rattle.nob_queues.proofs.Writes.{kept_twice, written_kept, written_marked, written_rows}
-use Rattle.nob_slots.specs.Slots.{is_number, item_at, PutsMark}
+use Rattle.nob_collections.specs.Slots.{is_number, item_at, PutsMark}
 use Rattle.nob_space_messages.specs.declared.entry.Entry.{Entry}
 use Rattle.nob_space_messages.specs.Lines.{with_waits}
 use Rattle.nob_space_messages.proofs.Rows.{some_set}

@@ -5,7 +5,7 @@ use Rattle.std.specs.Map.{set_value}
 use Rattle.std.specs.Option.{option_copied}
 use Rattle.nob_queues.specs.Queues.{marked_at, rows_at, writes_item}
 use Rattle.nob_queues.proofs.Writes.{kept_same, kept_twice, written_kept, written_marked, written_rows}
-use Rattle.nob_slots.specs.Slots.{is_number, item_at, PutsMark}
+use Rattle.nob_collections.specs.Slots.{is_number, item_at, PutsMark}
 use Rattle.nob_space_messages.specs.declared.entry.Entry.{Entry}
 use Rattle.nob_space_messages.specs.Waiting.{due_to, due_to_all, granted_message}
 use Rattle.nob_space_messages.specs.Lines.{AreMarked, items_of, lent_entry, with_waits}

@@ -1,5 +1,5 @@
 use Rattle.std.proofs.Common.{◌≡◌, nat_lt, ap, sym, subst, refl, ◌∙◌, arith, if◌then◌else◌}
-use Rattle.nob_slots.specs.Slots.{IsRising}
+use Rattle.nob_collections.specs.Slots.{IsRising}
 use Rattle.nob_space_messages.specs.Waiting.{due_to_all}
 use Rattle.nob_space_messages.specs.Lines.{places_for, is_standing, items_of, lent_entry, lent_where, stands}
 use Rattle.nob_space_messages.proofs.Lent.{due_lent, lent_again, lent_all, lent_next, lent_none}

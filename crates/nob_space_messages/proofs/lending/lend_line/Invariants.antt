@@ -1,5 +1,5 @@
 use Rattle.std.proofs.Common.{◌≡◌, ◌+◌, nat_lt}
-use Rattle.nob_slots.specs.Slots.{IsRising}
+use Rattle.nob_collections.specs.Slots.{IsRising}
 use Rattle.nob_space_messages.specs.Waiting.{due_to_all}
 use Rattle.nob_space_messages.specs.Lines.{AreMarked, is_standing, items_of, lent_where, stands}
 use Rattle.nob_queues.specs.Queues.{KeepsBut, marked_at, rows_at}

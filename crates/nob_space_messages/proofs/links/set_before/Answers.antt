@@ -1,6 +1,6 @@
 use Rattle.std.proofs.Common.{◌≡◌, Some, refl, sym, ap, ◌∙◌}
 use Rattle.std.specs.Option.{option_copied, option_map}
-use Rattle.nob_slots.specs.Slots.{item_at}
+use Rattle.nob_collections.specs.Slots.{item_at}
 use Rattle.nob_space_messages.specs.declared.links.Link.{Link}
 use Rattle.nob_space_messages.specs.InLine.{before_of, behind_of}
 use Rattle.nob_queues.proofs.Found.{set_by, set_same}

@@ -1,6 +1,6 @@
 use Rattle.std.proofs.Common.{sym, subst, refl, ◌∙◌}
 use Rattle.std.specs.Map.{keys_of}
-use Rattle.nob_slots.specs.Slots.{IsRising}
+use Rattle.nob_collections.specs.Slots.{IsRising}
 use Rattle.nob_space_messages.specs.Lines.{lines_of, lowered_entry, times_in}
 use Rattle.nob_space_messages.proofs.Counting.{times_next}
 use Rattle.nob_space_messages.proofs.Rows.{changed_rising, lowered_none}

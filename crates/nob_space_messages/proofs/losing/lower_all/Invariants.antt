@@ -1,6 +1,6 @@
 use Rattle.std.proofs.Common.{◌≡◌, take}
 use Rattle.std.specs.Map.{keys_of}
-use Rattle.nob_slots.specs.Slots.{IsRising}
+use Rattle.nob_collections.specs.Slots.{IsRising}
 use Rattle.nob_space_messages.specs.Lines.{AreMarked, lines_of, lowered, times_of}
 use Rattle.nob_queues.specs.Queues.{KeepsBut, marked_at, rows_at}
 use Rattle.nob_space_messages.proofs.losing.lower_all.Given as goal

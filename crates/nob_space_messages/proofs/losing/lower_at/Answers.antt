@@ -3,7 +3,7 @@ use Rattle.std.specs.Map.{set_value}
 use Rattle.std.specs.Option.{option_copied}
 use Rattle.nob_queues.specs.Queues.{marked_at, rows_at}
 use Rattle.nob_queues.proofs.Writes.{kept_same}
-use Rattle.nob_slots.specs.Slots.{is_number, item_at}
+use Rattle.nob_collections.specs.Slots.{is_number, item_at}
 use Rattle.nob_space_messages.specs.declared.entry.Entry.{Entry}
 use Rattle.nob_space_messages.specs.Lines.{lowered_entry, with_waits}
 use Rattle.nob_space_messages.proofs.Rows.{changed_absent, lowered_once, marked_set, set_changed}

@@ -1,5 +1,5 @@
 use Rattle.std.proofs.Common.{sym, subst, refl, ◌∙◌}
-use Rattle.nob_slots.specs.Slots.{IsRising}
+use Rattle.nob_collections.specs.Slots.{IsRising}
 use Rattle.nob_space_messages.specs.Lines.{lowered_entry, once}
 use Rattle.nob_space_messages.proofs.Counting.{stands_next}
 use Rattle.nob_space_messages.proofs.Rows.{changed_rising, lowered_none}

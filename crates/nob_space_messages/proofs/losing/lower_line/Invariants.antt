@@ -1,5 +1,5 @@
 use Rattle.std.proofs.Common.{◌≡◌}
-use Rattle.nob_slots.specs.Slots.{IsRising}
+use Rattle.nob_collections.specs.Slots.{IsRising}
 use Rattle.nob_space_messages.specs.Lines.{AreMarked, lowered, stands}
 use Rattle.nob_queues.specs.Queues.{KeepsBut, marked_at, rows_at}
 use Rattle.nob_space_messages.proofs.losing.lower_line.Given as goal

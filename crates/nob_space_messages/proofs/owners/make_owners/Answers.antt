@@ -1,5 +1,5 @@
 use Rattle.std.proofs.Common.{◌≡◌, ◌+◌, List, length, ◌∙◌, arith, ap}
-use Rattle.nob_slots.proofs.Flat.{length_push}
+use Rattle.nob_collections.proofs.Flat.{length_push}
 use Rattle.nob_space_messages.specs.Lines.{OwnerList, reps_in}
 use Rattle.nob_space_messages.proofs.Kept.{all_lines, lines_at, one_more, reps_more}
 use Rattle.nob_space_messages.proofs.owners.make_owners.Goals as goal

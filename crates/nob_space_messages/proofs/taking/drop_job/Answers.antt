@@ -1,7 +1,7 @@
 use Rattle.std.proofs.Common.{sym, subst}
 use Rattle.nob_queues.specs.Queues.{rows_at}
 use Rattle.nob_queues.proofs.Found.{removed_rising}
-use Rattle.nob_slots.specs.Slots.{IsRising}
+use Rattle.nob_collections.specs.Slots.{IsRising}
 use Rattle.nob_space_messages.specs.Rows.{SameTargets}
 use Rattle.nob_space_messages.proofs.Beside.{taken_targets}
 use Rattle.nob_space_messages.proofs.taking.drop_job.Goals as goal

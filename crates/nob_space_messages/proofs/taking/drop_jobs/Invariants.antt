@@ -1,7 +1,7 @@
 use Rattle.std.proofs.Common.{◌≡◌, ℕ, ◌≤◌}
 use Rattle.nob_queues.specs.Queues.{KeepsBut, rows_at}
-use Rattle.nob_slots.specs.Numbers.{numbers_of}
-use Rattle.nob_slots.specs.Slots.{IsRising}
+use Rattle.nob_collections.specs.Numbers.{numbers_of}
+use Rattle.nob_collections.specs.Slots.{IsRising}
 use Rattle.nob_space_messages.specs.InLine.{AreLinked}
 use Rattle.nob_space_messages.specs.Lanes.{lane_at, runs_in}
 use Rattle.nob_space_messages.specs.Lines.{without}

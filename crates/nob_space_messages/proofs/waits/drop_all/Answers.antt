@@ -1,5 +1,5 @@
 use Rattle.std.proofs.Common.{ap, sym, subst, ◌∙◌}
-use Rattle.nob_slots.specs.Slots.{IsRising}
+use Rattle.nob_collections.specs.Slots.{IsRising}
 use Rattle.nob_space_messages.specs.Lines.{AreMarked, without}
 use Rattle.nob_space_messages.proofs.Found.{removed_rising}
 use Rattle.nob_space_messages.proofs.Stamps.{marked_removed}

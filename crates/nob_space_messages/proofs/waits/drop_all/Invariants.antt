@@ -1,6 +1,6 @@
 use Rattle.std.proofs.Common.{◌≡◌}
-use Rattle.nob_slots.specs.Numbers.{numbers_of}
-use Rattle.nob_slots.specs.Slots.{IsRising}
+use Rattle.nob_collections.specs.Numbers.{numbers_of}
+use Rattle.nob_collections.specs.Slots.{IsRising}
 use Rattle.nob_space_messages.specs.Copies.{AreCarried}
 use Rattle.nob_space_messages.specs.Lines.{AreMarked, items_of, without}
 use Rattle.nob_queues.specs.Queues.{KeepsBut, marked_at, rows_at}

@@ -1,7 +1,7 @@
 use Rattle.std.proofs.Common.{◌≡◌, ◌≤◌, length}
-use Rattle.nob_slots.specs.Marks.{bound}
+use Rattle.nob_collections.specs.Marks.{bound}
 use Rattle.nob_table.specs.Far.{IsOrdered, Covers, KeepMarks}
-use Rattle.nob_rows.specs.Rows.{IsOnce}
+use Rattle.nob_collections.specs.Rows.{IsOnce}
 use Rattle.nob_table.proofs.Lost.{AreLost}
 use Rattle.nob_table.proofs.losing.lose_all.Given as goal
 

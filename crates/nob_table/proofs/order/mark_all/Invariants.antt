@@ -1,5 +1,5 @@
 use Rattle.std.proofs.Common.{◌≡◌, ℕ, ◌<◌, ◌≤◌, slice_get, false}
-use Rattle.nob_slots.specs.Marks.{has, bound}
+use Rattle.nob_collections.specs.Marks.{has, bound}
 use Rattle.nob_table.specs.Far.{is_idle_in, is_spare_in, passes_at}
 use Rattle.nob_table.proofs.order.mark_all.Given as goal
 

@@ -1,6 +1,6 @@
 use Rattle.std.proofs.Common.{◌==◌, Bool, List, sym, ◌∙◌, arith}
 use Rattle.nob_ids.specs.declared.wire_rep.WireRep.{WireRep}
-use Rattle.nob_rows.specs.Rows.{reps_of}
+use Rattle.nob_collections.specs.Rows.{reps_of}
 use Rattle.nob_table.proofs.Counting.{one_counts, none_counts}
 use Rattle.nob_table.proofs.surrogates.count_of.Goals.{then-eq, else-eq}
 use Rattle.nob_table.proofs.surrogates.count_of.Goals as goal

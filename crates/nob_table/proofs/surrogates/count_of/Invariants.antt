@@ -1,5 +1,5 @@
 use Rattle.std.proofs.Common.{◌≡◌, ◌+◌, ◌≤◌, ◌==◌}
-use Rattle.nob_rows.specs.Rows.{reps_of}
+use Rattle.nob_collections.specs.Rows.{reps_of}
 use Rattle.nob_table.proofs.Counting.{passing_from}
 use Rattle.nob_table.proofs.surrogates.count_of.Given as goal
 

@@ -1,5 +1,5 @@
 use Rattle.std.proofs.Common.{◌≡◌, ℕ, ◌<◌, ◌≤◌, Bool, List, slice_get, false}
-use Rattle.nob_slots.specs.Marks.{has, bound}
+use Rattle.nob_collections.specs.Marks.{has, bound}
 use Rattle.nob_table_rows.specs.declared.object.Object.{Object}
 use Rattle.nob_table_rows.specs.Counts.{is_unheld_object, is_spare_object}
 use Rattle.nob_table_rows.specs.Objects.{passes_at}

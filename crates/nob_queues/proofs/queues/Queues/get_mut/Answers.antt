@@ -1,7 +1,7 @@
 use Rattle.std.proofs.Common.{◌≡◌, ℕ, Option, Some, sym, ap, refl, arith, ◌∙◌}
 use lib.ListN.{set}
 use Rattle.slab.proofs.SlabLemmas.{Updates-with_value}
-use Rattle.nob_slots.specs.Slots.{SlotList, item_at}
+use Rattle.nob_collections.specs.Slots.{SlotList, item_at}
 use Rattle.nob_queues.specs.Queues.{queue_or_none}
 use Rattle.nob_queues.proofs.Lent.{lent_is}
 use Rattle.nob_queues.proofs.Keyed.{item_or}

@@ -3,8 +3,8 @@ use Rattle.std.proofs.Math.ListN.{length-set}
 use lib.ListN.{set}
 use Rattle.std.proofs.lemmas.Bool.{eqb-false}
 use Rattle.std.proofs.lemmas.List.{append-nil}
-use Rattle.nob_slots.specs.Slots.{SlotList, is_marked}
-use Rattle.nob_slots.proofs.Flat.{get_set_other}
+use Rattle.nob_collections.specs.Slots.{SlotList, is_marked}
+use Rattle.nob_collections.proofs.Flat.{get_set_other}
 use Rattle.nob_queues.specs.Keys.{rows_of}
 use Rattle.nob_queues.specs.Queues.{row_if}
 use Rattle.nob_queues.proofs.Found.{removed_absent}

@@ -1,6 +1,6 @@
 use Rattle.std.proofs.Common.{rules, ◌≡◌, List, ℕ, length, sym, ap, refl, arith, ◌∙◌}
 use Rattle.std.specs.Map.{remove_entry}
-use Rattle.nob_slots.specs.Slots.{is_number}
+use Rattle.nob_collections.specs.Slots.{is_number}
 use Rattle.nob_queues.specs.Keys.{rows_of}
 use Rattle.nob_queues.proofs.Found.{removed_absent}
 use Rattle.nob_queues.proofs.Keyed.{item_or}

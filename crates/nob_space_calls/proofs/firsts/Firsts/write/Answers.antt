@@ -1,5 +1,5 @@
 use Rattle.std.proofs.Common.{◌≡◌, IsSome, None, sym}
-use Rattle.nob_slots.specs.Slots.{item_at}
+use Rattle.nob_collections.specs.Slots.{item_at}
 use Rattle.nob_space_calls.proofs.firsts.Firsts.write.Goals as goal
 use Rattle.nob_space_calls.proofs.firsts.Firsts.write.Goals.{in-Some, in_default}
 

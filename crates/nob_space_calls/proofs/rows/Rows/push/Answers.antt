@@ -1,6 +1,6 @@
 use Rattle.std.proofs.Common.{◌++◌, ◌∷◌, [], sym, ap, subst, ◌∙◌}
-use Rattle.nob_slots.specs.Numbers.{numbers_of, IsAboveAll, Puts}
-use Rattle.nob_slots.specs.Slots.{IsAbove}
+use Rattle.nob_collections.specs.Numbers.{numbers_of, IsAboveAll, Puts}
+use Rattle.nob_collections.specs.Slots.{IsAbove}
 use Rattle.nob_space_calls.proofs.Numbered.{above_rows, above_listed, are_push}
 use Rattle.nob_space_calls.proofs.rows.Rows.push.Goals as goal
 

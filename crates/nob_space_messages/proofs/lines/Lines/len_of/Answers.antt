@@ -1,7 +1,7 @@
 use Rattle.std.proofs.Common.{◌≡◌, nat_lt, false, length, None, ap, sym, subst, arith}
 use Rattle.std.proofs.lemmas.Bool.Decides.{nat_tests}
 use Rattle.std.proofs.lemmas.Option.{slice_get_past}
-use Rattle.nob_rows.specs.Rows.{IsOnce}
+use Rattle.nob_collections.specs.Rows.{IsOnce}
 use Rattle.nob_space_messages.specs.Lines.{LineMap, lists_of, lines_or_none}
 use Rattle.nob_space_messages.proofs.Kept.{lines_at, none_once, none_here, reps_own}
 use Rattle.nob_space_messages.proofs.lines.Lines.len_of.Goals as goal

@@ -3,7 +3,7 @@ use Rattle.std.proofs.lemmas.Option.{same_Some}
 use Rattle.std.specs.Option.{option_copied}
 use Rattle.nob_model_acting.specs.Candidates.{target_of}
 use Rattle.nob_queues.specs.Queues.{row_if, rows_at}
-use Rattle.nob_slots.specs.Slots.{item_at}
+use Rattle.nob_collections.specs.Slots.{item_at}
 use Rattle.nob_space_messages.specs.declared.entry.Entry.{Entry}
 use Rattle.nob_space_messages.specs.InLine.{target_at, with_at}
 use Rattle.nob_space_messages.specs.Jobs.{is_free_of}

@@ -1,6 +1,6 @@
 use Rattle.std.proofs.Common.{refl, arith, ◌≡◌, ap, sym, subst, ◌∙◌}
 use Rattle.nob_model_types.specs.Messages.{is_not_from}
-use Rattle.nob_slots.specs.Slots.{item_at, IsAbove, IsRising}
+use Rattle.nob_collections.specs.Slots.{item_at, IsAbove, IsRising}
 use Rattle.nob_space_messages.specs.Lines.{items_of, stamps_from, without}
 use Rattle.nob_space_messages.proofs.Carried.{kept_few}
 use Rattle.nob_space_messages.proofs.Found.{fewer, kept, kept_below, kept_found, kept_items, kept_rising}

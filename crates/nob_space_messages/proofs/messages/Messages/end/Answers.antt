@@ -4,7 +4,7 @@ use Rattle.std.specs.Option.{option_map, option_to_list}
 use Rattle.nob_model_acting.specs.Candidates.{target_of}
 use Rattle.nob_model_work.specs.Work.{is_run}
 use Rattle.nob_queues.specs.Queues.{rows_at}
-use Rattle.nob_slots.specs.Slots.{is_number, item_at}
+use Rattle.nob_collections.specs.Slots.{is_number, item_at}
 use Rattle.nob_space_messages.specs.Rows.{newest_first}
 use Rattle.nob_space_messages.proofs.Counted.{runs_some}
 use Rattle.nob_space_messages.proofs.Jobs.{counted_fewer, ready_ended}

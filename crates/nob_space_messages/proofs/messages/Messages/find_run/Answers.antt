@@ -1,7 +1,7 @@
 use Rattle.std.proofs.Common.{◌≡◌, Some, filter, ap, sym, refl, ◌∙◌}
 use Rattle.std.specs.Option.{option_copied, option_map, option_to_list}
 use Rattle.nob_model_work.specs.Work.{is_run}
-use Rattle.nob_slots.specs.Slots.{item_at}
+use Rattle.nob_collections.specs.Slots.{item_at}
 use Rattle.nob_queues.specs.Queues.{rows_at}
 use Rattle.nob_space_messages.specs.Rows.{newest_first}
 use Rattle.nob_space_messages.proofs.Newest.{alone, as_run, first_of, lent_cases}

@@ -1,6 +1,6 @@
 use Rattle.std.proofs.Common.{◌≡◌, ◌<◌, ◌≤◌, ◌+◌, ℕ, min, sym, ap, subst, refl, arith, ◌∙◌}
 use Rattle.nob_queues.specs.Queues.{rows_at}
-use Rattle.nob_slots.specs.Numbers.{IsAboveAll}
+use Rattle.nob_collections.specs.Numbers.{IsAboveAll}
 use Rattle.nob_space_messages.specs.Lines.{items_of}
 use Rattle.nob_space_messages.proofs.Beside.{links_above}
 use Rattle.nob_space_messages.proofs.Jobs.{counted_same, ready_pushed}

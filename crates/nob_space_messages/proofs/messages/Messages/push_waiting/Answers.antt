@@ -1,6 +1,6 @@
 use Rattle.std.proofs.Common.{refl, arith, ◌==◌, ◌+◌, ◌<◌, length, filter, ap, sym, subst, ◌∙◌, IsSome, if◌then◌else◌}
-use Rattle.nob_slots.specs.Numbers.{IsAboveAll}
-use Rattle.nob_slots.specs.Slots.{item_at, PutsMark}
+use Rattle.nob_collections.specs.Numbers.{IsAboveAll}
+use Rattle.nob_collections.specs.Slots.{item_at, PutsMark}
 use Rattle.nob_space_messages.specs.Waiting.{is_due, waits_for}
 use Rattle.nob_space_messages.specs.Lines.{places_for, times_in}
 use Rattle.nob_space_messages.proofs.Carried.{pushed_carried, pushed_few, small}

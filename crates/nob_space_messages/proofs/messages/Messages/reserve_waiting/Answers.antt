@@ -1,6 +1,6 @@
 use Rattle.std.proofs.Common.{◌≡◌, ◌<◌, ◌+◌, ℕ, List, slice_get, refl, sym, ap, subst, arith, ◌∙◌}
 use Rattle.nob_queues.specs.Queues.{marked_at, queue_at, queue_or_none, room_at, rows_at}
-use Rattle.nob_slots.specs.Slots.{SlotList}
+use Rattle.nob_collections.specs.Slots.{SlotList}
 use Rattle.nob_space_messages.specs.declared.entry.Entry.{Entry}
 use Rattle.nob_space_messages.specs.Copies.{AreCarried}
 use Rattle.nob_space_messages.specs.Lines.{AreWaiting, items_of}

@@ -2,8 +2,8 @@ use Rattle.std.proofs.Common.{◌≡◌, ◌<◌, ◌++◌, ℕ, Option, Some, l
 use Rattle.std.proofs.lemmas.List.{append-nil}
 use Rattle.std.specs.Option.{option_copied}
 use Rattle.nob_queues.specs.Queues.{marked_at, room_at, row_if, rows_at}
-use Rattle.nob_slots.specs.Numbers.{IsAboveAll}
-use Rattle.nob_slots.specs.Slots.{IsAbove, IsRising, item_at}
+use Rattle.nob_collections.specs.Numbers.{IsAboveAll}
+use Rattle.nob_collections.specs.Slots.{IsAbove, IsRising, item_at}
 use Rattle.nob_space_messages.specs.declared.entry.Entry.{Entry}
 use Rattle.nob_space_messages.specs.Lines.{AreMarked, items_of, stamps_from}
 use Rattle.nob_space_messages.specs.Messages.{if_any}

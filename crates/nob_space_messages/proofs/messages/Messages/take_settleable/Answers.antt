@@ -1,5 +1,5 @@
 use Rattle.std.proofs.Common.{refl, arith, ap, sym, subst, ◌∙◌}
-use Rattle.nob_slots.specs.Slots.{item_at, IsAbove, IsRising}
+use Rattle.nob_collections.specs.Slots.{item_at, IsAbove, IsRising}
 use Rattle.nob_space_messages.specs.Lines.{items_of, stamps_from, AreMarked}
 use Rattle.nob_space_messages.proofs.Carried.{fewer_few, removed_carried, some}
 use Rattle.nob_space_messages.proofs.Found.{fewer, first_found, first_none, removed_below, removed_found, removed_rising}

@@ -1,6 +1,6 @@
 use Rattle.std.proofs.Common.{◌≡◌, None, arith}
 use Rattle.nob_ids.specs.declared.wire_rep.WireRep.{WireRep}
-use Rattle.nob_rows.specs.Rows.{row_at}
+use Rattle.nob_collections.specs.Rows.{row_at}
 use Rattle.nob_table.proofs.Kept.{far_without}
 use Rattle.nob_table.proofs.Slotted.{same_elsewhere}
 use Rattle.nob_table.proofs.far.Far.forget.Goals as goal

@@ -4,7 +4,7 @@ use Rattle.nob_table_rows.specs.declared.counts.Counts.{Counts}
 use Rattle.nob_table.specs.declared.order.Slot.{Slot}
 use Rattle.nob_table_rows.specs.declared.standing.Surrogate.{Surrogate}
 use Rattle.nob_table_rows.specs.Counts.{no_counts}
-use Rattle.nob_rows.specs.Rows.{row_at, Puts}
+use Rattle.nob_collections.specs.Rows.{row_at, Puts}
 use Rattle.nob_table_rows.specs.Standings.{waiting_surrogate}
 use Rattle.nob_table_rows.proofs.Flat.{length_push}
 use Rattle.nob_table.proofs.Pushed.{in_order_pushed, sent_pushed, have_pushed, idle_pushed, spare_pushed, linked_pushed, ends_pushed}

@@ -1,5 +1,5 @@
 use Rattle.std.proofs.Common.{◌≡◌, Some, is_some, true, sym, ap, ◌∙◌, arith}
-use Rattle.nob_rows.specs.Rows.{row_at}
+use Rattle.nob_collections.specs.Rows.{row_at}
 use Rattle.nob_table.proofs.Kept.{far_removed}
 use Rattle.nob_table.proofs.far.Far.remove.Goals as goal
 

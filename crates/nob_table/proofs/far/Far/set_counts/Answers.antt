@@ -3,7 +3,7 @@ use Rattle.std.specs.Option.{option_map}
 use Rattle.nob_ids.specs.declared.wire_rep.WireRep.{WireRep}
 use Rattle.nob_table_rows.specs.declared.standing.Surrogate.{Surrogate}
 use Rattle.nob_table_rows.specs.Order.{place_in}
-use Rattle.nob_rows.specs.Rows.{row_at}
+use Rattle.nob_collections.specs.Rows.{row_at}
 use Rattle.nob_table.proofs.Kept.{far_without, far_written}
 use Rattle.nob_table.proofs.Slotted.{same_elsewhere}
 use Rattle.nob_table.proofs.far.Far.set_counts.Goals as goal

@@ -1,6 +1,6 @@
 use Rattle.std.proofs.Common.{◌≡◌, is_some, true, refl, sym, ap, ◌∙◌}
 use Rattle.nob_ids.specs.Names.{is_same}
-use Rattle.nob_rows.specs.Rows.{row_at}
+use Rattle.nob_collections.specs.Rows.{row_at}
 use Rattle.nob_table_rows.proofs.Made.{some_each}
 use Rattle.nob_table.specs.Far.{surrogates_in}
 use Rattle.nob_table.specs.declared.surrogates.Marked.{Marked}

@@ -1,5 +1,5 @@
 use Rattle.std.proofs.Common.{◌≡◌, ◌+◌, length, Some, None, false, arith}
-use Rattle.nob_rows.specs.Rows.{row_at}
+use Rattle.nob_collections.specs.Rows.{row_at}
 use Rattle.nob_table_rows.proofs.Flat.{length_push}
 use Rattle.nob_table_rows.proofs.Made.{length_each, once_each, puts_each}
 use Rattle.nob_table.specs.declared.surrogates.Marked.{Marked}

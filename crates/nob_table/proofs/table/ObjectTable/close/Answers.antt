@@ -2,7 +2,7 @@ use Rattle.std.proofs.Common.{◌==◌, not, arith}
 use Rattle.std.proofs.lemmas.Map.Entries.{length-keys_of}
 use Rattle.nob_ids.specs.declared.wire_rep.WireRep.{WireRep}
 use Rattle.nob_table_rows.specs.Order.{place_in}
-use Rattle.nob_rows.specs.Rows.{reps_of}
+use Rattle.nob_collections.specs.Rows.{reps_of}
 use Rattle.nob_table.proofs.Ordered.{order_filter}
 use Rattle.nob_table.proofs.Tables.{table_closed, filter_shorter, place_left}
 use Rattle.nob_table.proofs.table.ObjectTable.close.Goals as goal

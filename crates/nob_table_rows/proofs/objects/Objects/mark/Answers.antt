@@ -3,7 +3,7 @@ use Rattle.nob_ids.specs.Names.{is_same}
 use Rattle.nob_ids.specs.declared.wire_rep.WireRep.{WireRep}
 use Rattle.nob_table_rows.specs.declared.object.Object.{Object}
 use Rattle.nob_table_rows.specs.Objects.{live_rows, counts_in}
-use Rattle.nob_rows.specs.Rows.{row_at, Puts}
+use Rattle.nob_collections.specs.Rows.{row_at, Puts}
 use Rattle.nob_table_rows.proofs.LiveRows.{slot_of_row, live_set, slots_set, puts_live}
 use Rattle.nob_table_rows.proofs.Made.{marks_none, marks_put, counts_same, some_each}
 use Rattle.nob_table_rows.proofs.objects.Objects.mark.Goals as goal

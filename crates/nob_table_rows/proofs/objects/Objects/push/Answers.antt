@@ -4,7 +4,7 @@ use Rattle.nob_ids.specs.declared.wire_rep.WireRep.{WireRep}
 use Rattle.nob_table_rows.specs.declared.object.Object.{Object}
 use Rattle.nob_table_rows.specs.Counts.{is_unheld_object, is_spare_object}
 use Rattle.nob_table_rows.specs.Objects.{live_rows}
-use Rattle.nob_rows.specs.Rows.{reps_of, row_at, Puts}
+use Rattle.nob_collections.specs.Rows.{reps_of, row_at, Puts}
 use Rattle.nob_table_rows.proofs.LiveRows.{no_slot, row_of_slot, all_before, row_push, slots_pushed, puts_live, live_push, length_one}
 use Rattle.nob_table_rows.proofs.Marked.{passing_push}
 use Rattle.nob_table_rows.proofs.Made.{length_each, puts_each, marks_same, mark_at}

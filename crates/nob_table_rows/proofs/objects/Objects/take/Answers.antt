@@ -5,7 +5,7 @@ use Rattle.nob_table_rows.specs.declared.object.Object.{Object}
 use Rattle.nob_table_rows.specs.Counts.{is_unheld_object, is_spare_object}
 use Rattle.nob_table_rows.specs.Objects.{live_rows, counts_in, passes_at}
 use Rattle.std.proofs.lemmas.Option.{slice_get_past}
-use Rattle.nob_rows.specs.Rows.{row_at, Puts, IsOnce}
+use Rattle.nob_collections.specs.Rows.{row_at, Puts, IsOnce}
 use Rattle.std.specs.Map.{set_value}
 use Rattle.nob_table_rows.proofs.LiveRows.{Slots, slot_there, live_emptied, live_filled, length_filled, live_shorter, slots_cleared, slots_emptied, puts_live}
 use Rattle.nob_table_rows.proofs.Made.{length_each, some_each, puts_each}

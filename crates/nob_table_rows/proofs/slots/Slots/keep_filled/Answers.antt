@@ -3,7 +3,7 @@ use Rattle.std.proofs.lemmas.Fn.{filter_same}
 use Rattle.nob_ids.specs.declared.wire_rep.WireRep.{WireRep}
 use Rattle.nob_table_rows.specs.declared.object.Object.{Object}
 use Rattle.nob_table_rows.specs.Order.{IsByIndex, index_of}
-use Rattle.nob_rows.specs.Rows.{reps_of}
+use Rattle.nob_collections.specs.Rows.{reps_of}
 use Rattle.nob_table_rows.proofs.LiveRows.{once_by_index, rising_filled}
 use Rattle.nob_table_rows.proofs.slots.Slots.keep_filled.Goals as goal
 use Rattle.nob_table_rows.proofs.slots.Slots.keep_filled.Goals.{After-retain}

@@ -2,7 +2,7 @@ use Rattle.std.proofs.Common.{◌≡◌, ◌++◌, ◌∷◌, [], Option, List, 
 use Rattle.nob_ids.specs.declared.wire_rep.WireRep.{WireRep}
 use Rattle.nob_table_rows.specs.declared.object.Object.{Object}
 use Rattle.nob_table_rows.specs.Order.{IsByIndex, index_of}
-use Rattle.nob_rows.specs.Rows.{reps_of}
+use Rattle.nob_collections.specs.Rows.{reps_of}
 use Rattle.nob_table_rows.proofs.LiveRows.{once_by_index, reps_more}
 use Rattle.nob_table_rows.proofs.Rising.{rising_push}
 use Rattle.nob_table_rows.proofs.slots.Slots.push.Goals as goal

@@ -1,0 +1,26 @@
+pub mod Flat
+pub mod Held
+pub mod Live
+pub mod Marking
+pub mod Numbering
+pub mod Parted
+pub mod Placed
+pub mod Rising
+pub mod Swept
+pub mod Thinned
+pub mod Trimmed
+mod Bits
+pub mod KeptNumbers
+pub mod Once
+pub mod Below
+pub mod Edits
+pub mod Leaves
+pub mod Looked
+pub mod Moves
+pub mod Owners
+pub mod Set
+pub mod Taken
+pub mod RowFlat
+pub mod Same
+pub mod Walks
+pub mod Written

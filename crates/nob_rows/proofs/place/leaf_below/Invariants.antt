@@ -1,5 +1,0 @@
-use Rattle.nob_rows.specs.Tree.{IsBelow}
-use Rattle.nob_rows.proofs.place.leaf_below.Given as goal
-
-abbrev pub invariant-loop-step : goal.invariant-loop-step
-invariant-loop-step g l = IsBelow l.nodes l.place l._step l.at

@@ -1,6 +1,0 @@
-use Rattle.std.proofs.Common.{◌≡◌, Some}
-use Rattle.nob_rows.specs.Tree.{walk}
-use Rattle.nob_rows.proofs.place.walk.Given as goal
-
-abbrev pub invariant-loop-depth : goal.invariant-loop-depth
-invariant-loop-depth g l = walk l.nodes l.rep l.depth ≡ Some l.place

@@ -1,6 +1,0 @@
-use Rattle.std.proofs.Common.{◌*◌}
-use Rattle.nob_slots.specs.Marks.{NoneIn}
-use Rattle.nob_slots.proofs.words.first_of.Given as goal
-
-abbrev pub invariant-loop-word : goal.invariant-loop-word
-invariant-loop-word l = NoneIn l.words l.from (l.word * 64)

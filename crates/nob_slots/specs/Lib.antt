@@ -1,5 +1,0 @@
-pub mod Slots
-pub mod Places
-pub mod Marks
-pub mod Numbers
-pub mod Lists
