@@ -296,3 +296,174 @@ fn an_async_method_sees_all_that_it_was_woken_for() {
     });
     assert!(states > 1_000, "{states}");
 }
+
+const CALLERS: usize = 3;
+
+/// Who has a node's driver.
+#[derive(Clone, Copy, PartialEq, Eq, Hash, Debug)]
+enum Seat {
+    Free,
+    Keeper,
+    Caller(usize),
+}
+
+/// Callers of whom each makes a call and turns the node, looks or sleeps until it is answered, the last one by a future; the node's
+/// own thread; and a peer that answers in any order.
+#[derive(Clone, PartialEq, Eq, Hash, Debug)]
+struct Led {
+    seat: Seat,
+    is_kept: bool,
+    is_called: bool,
+    is_looked_for: bool,
+    // Whether a caller took the driver since the last tick.
+    led: bool,
+    // Whether the own thread has turned all there was, so that it sleeps.
+    sleeps: bool,
+    posted: [bool; CALLERS],
+    sent: [bool; CALLERS],
+    replied: [bool; CALLERS],
+    done: [bool; CALLERS],
+    places: [u8; CALLERS],
+}
+
+impl Led {
+    fn has_commands(&self) -> bool {
+        self.posted.iter().zip(&self.sent).any(|(posted, sent)| *posted && !sent)
+    }
+
+    fn has_replies(&self) -> bool {
+        self.replied.iter().zip(&self.done).any(|(replied, done)| *replied && !done)
+    }
+
+    // The steps of `Driver::turn`.
+    fn turn(&mut self) {
+        self.sent = self.posted;
+        self.done = self.replied;
+    }
+
+    // The steps of `Seat::call_keeper`.
+    fn call_keeper(&mut self) {
+        self.is_called |= self.seat == Seat::Free && !self.is_kept;
+    }
+
+    // The steps of `Shared::leave_rest`.
+    fn leave_rest(&mut self) {
+        if !self.is_looked_for && self.has_commands() {
+            self.call_keeper();
+        }
+    }
+
+    fn lead(&mut self, caller: usize) -> bool {
+        let may = self.seat == Seat::Free && !self.is_kept;
+        if may {
+            (self.seat, self.led) = (Seat::Caller(caller), true);
+        }
+        may
+    }
+}
+
+const POSTS: u8 = 0;
+const COMES: u8 = 1;
+const LEADS: u8 = 2;
+const LOOKS: u8 = 3;
+const GOES: u8 = 4;
+const VAIN: u8 = 5;
+const SLEEPS: u8 = 6;
+const ENDS: u8 = 7;
+
+// The next steps of a caller, of which each may be the one.
+fn call(led: &Led, caller: usize) -> Vec<Led> {
+    let mut next = Vec::new();
+    let mut goes = |place: u8, step: &dyn Fn(&mut Led)| {
+        let mut led = led.clone();
+        led.places[caller] = place;
+        step(&mut led);
+        next.push(led);
+    };
+    let is_awaited = caller + 1 == CALLERS;
+    match led.places[caller] {
+        POSTS => goes(COMES, &|led| led.posted[caller] = true),
+        COMES if is_awaited => goes(ENDS, &|led| led.call_keeper()),
+        COMES if led.clone().lead(caller) => goes(LEADS, &|led| assert!(led.lead(caller))),
+        COMES if led.is_looked_for => goes(SLEEPS, &|_| {}),
+        COMES => goes(LOOKS, &|led| led.is_looked_for = true),
+        LEADS => {
+            goes(LEADS, &Led::turn);
+            if led.done[caller] {
+                goes(GOES, &|led| led.seat = Seat::Free);
+            } else {
+                goes(VAIN, &|led| (led.seat, led.is_kept) = (Seat::Free, true));
+            }
+        }
+        LOOKS => {
+            goes(if led.done[caller] { GOES } else { VAIN }, &|led| led.is_looked_for = false);
+            if led.clone().lead(caller) {
+                goes(LEADS, &|led| led.is_looked_for = !led.lead(caller));
+            }
+        }
+        GOES => goes(ENDS, &Led::leave_rest),
+        VAIN => goes(SLEEPS, &Led::leave_rest),
+        // It has called the node's own thread, and sleeps.
+        SLEEPS => goes(ENDS, &|led| led.call_keeper()),
+        _ => {}
+    }
+    next.retain(|next| next != led);
+    next
+}
+
+// The next steps of the node's own thread: `keep`, and `Seat::stand_aside`, with ticks or without.
+fn keep(led: &Led, has_ticks: bool) -> Vec<Led> {
+    let mut next = led.clone();
+    match led.seat {
+        Seat::Keeper if led.has_commands() || led.has_replies() => next.turn(),
+        Seat::Keeper if led.is_looked_for => next.seat = Seat::Free,
+        Seat::Keeper => next.sleeps = true,
+        Seat::Free if led.is_kept || led.is_called || (has_ticks && !led.led) => {
+            (next.seat, next.is_kept, next.is_called) = (Seat::Keeper, false, false);
+        }
+        _ if has_ticks => next.led = false,
+        _ => {}
+    }
+    if next == *led { Vec::new() } else { vec![next] }
+}
+
+// All ways in which they can follow one another: how many states there are, and in how many of those that stay as they are
+// somebody waits for ever.
+fn explore_leads(has_ticks: bool) -> (usize, usize) {
+    let none = [false; CALLERS];
+    let first = Led {
+        seat: Seat::Keeper,
+        is_kept: false,
+        is_called: false,
+        is_looked_for: false,
+        led: false,
+        sleeps: false,
+        posted: none,
+        sent: none,
+        replied: none,
+        done: none,
+        places: [POSTS; CALLERS],
+    };
+    let (mut known, mut left, mut lost) = (HashSet::from([first.clone()]), vec![first], 0);
+    while let Some(led) = left.pop() {
+        let mut next: Vec<Led> = (0..CALLERS).flat_map(|caller| call(&led, caller)).collect();
+        next.extend(keep(&led, has_ticks));
+        for caller in (0..CALLERS).filter(|caller| led.sent[*caller] && !led.replied[*caller]) {
+            let mut answered = led.clone();
+            answered.replied[caller] = true;
+            next.push(answered);
+        }
+        lost += usize::from(next.is_empty() && led.done != [true; CALLERS]);
+        left.extend(next.into_iter().filter(|led| known.insert(led.clone())));
+    }
+    (known.len(), lost)
+}
+
+#[test]
+fn whoever_waits_is_answered_whether_or_not_a_caller_turns_the_node() {
+    let (states, lost) = explore_leads(true);
+    assert!(states > 1_000, "{states}");
+    assert_eq!(lost, 0, "somebody waits for ever");
+    // Who turned the node calls nobody when it goes: that is what the ticks are for.
+    assert!(explore_leads(false).1 > 0, "the ticks aren't needed");
+}

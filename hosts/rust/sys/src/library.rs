@@ -4,9 +4,9 @@
 //! What every call below meets, by what `Handle` is:
 //! - The handle is made by `Handle::new` alone, from null, and never copied or read. It is private
 //!   here, so nothing else ever sees it. `nob_end` is called once, by `Drop`, and nothing after it.
-//! - A `Handle` is neither `Send` nor `Sync`: all calls of one handle are made by one thread, so one
-//!   at a time, and none of them calls back. A signal handler, or the forked child of a process with
-//!   threads, can't make one but by unsafe code of another crate.
+//! - A `Handle` isn't `Sync`: all calls of one handle are made by whoever has it, so one at a time,
+//!   and none of them calls back. A signal handler, or the forked child of a process with threads,
+//!   can't make one but by unsafe code of another crate. It is `Send`, which isn't proved: see there.
 //! - A pointer and a length come from one slice, which lives through the call and which nothing
 //!   writes meanwhile. The pointer of a slice is never null, and no function keeps it.
 //! - `Told`, `Work`, `Tally`, `Counts`, `PeerCounts` and `Front` are laid out as the library has them. They, and what bytes are copied to, are
@@ -117,6 +117,12 @@ unsafe extern "C" {
 /// ```
 // The cell is there since looks, too, are given a pointer that may be written through.
 pub struct Handle(UnsafeCell<RawHandle>);
+
+// SAFETY: a handle may go to another thread, to which whoever moves it hands on all that was written before. That isn't
+// proved of the library; it rests on reading: what is behind the handle is memory that this space alone has, by `malloc`, which takes
+// memory back from any thread, and the library has nothing else: no static that is written, and nothing of a thread's own. That its
+// archive has no place for these is tested (`tests/archive.rs`).
+unsafe impl Send for Handle {}
 
 impl fmt::Debug for Handle {
     fn fmt(&self, f: &mut fmt::Formatter<'_>) -> fmt::Result {

@@ -2,7 +2,7 @@
 
 use super::cancel::Cancel;
 use super::desks::Waits;
-use super::driver::driving;
+use super::driver::{Lead, driving};
 use super::shared::{Command, Shared};
 use super::spans::CallSpan;
 use crate::engine::{Ticket, Why};
@@ -13,6 +13,7 @@ use std::fmt;
 use std::future::Future;
 use std::hint;
 use std::marker::PhantomData;
+use std::panic::{AssertUnwindSafe, catch_unwind};
 use std::pin::Pin;
 use std::sync::atomic::{AtomicBool, AtomicU64, Ordering};
 use std::sync::{Arc, Condvar, Mutex, MutexGuard, OnceLock};
@@ -188,7 +189,10 @@ pub(crate) enum Rouse {
 impl Rouse {
     pub(crate) fn rouse(self) {
         match self {
-            Rouse::Task(waker) => waker.wake(),
+            Rouse::Task(waker) => {
+                // One that panics ends neither the node nor whoever turns it.
+                let _woken = catch_unwind(AssertUnwindSafe(|| waker.wake()));
+            }
             Rouse::Thread(state) => state.rouse(),
         }
     }
@@ -452,7 +456,11 @@ impl<T: Pass> Call<T> {
 
     // Looks, since a reply comes soon or late; then sleeps.
     fn sleep_until(&self, end: Option<Instant>) -> Option<Completed> {
-        self.look();
+        self.look(end);
+        // Nobody may turn the node now, and who sleeps doesn't either.
+        if !self.is_done() {
+            self.shared.seat().call_keeper();
+        }
         let _waits = Waits::until(&self.state);
         let mut slot = self.state.slot();
         loop {
@@ -477,24 +485,58 @@ impl<T: Pass> Call<T> {
         }
     }
 
-    // Looks for a while whether the answer has come, if nobody else does: others would only take the
-    // processors from those who bring it. Meanwhile it rouses others whose answers have come.
-    fn look(&self) {
-        let is_done = || self.state.is_done.load(Ordering::Acquire);
-        if is_done() {
+    fn is_done(&self) -> bool {
+        self.state.is_done.load(Ordering::Acquire)
+    }
+
+    // Turns the node for a while, where nobody does; else looks whether the answer has come, if nobody else does: others would
+    // only take the processors from those who bring it.
+    fn look(&self, end: Option<Instant>) {
+        if self.is_done() {
             return;
         }
-        let Some(looks) = self.shared.begin_look() else { return };
+        let Some(looks) = self.shared.may_look() else { return };
         let since = Instant::now();
-        let is_found = || {
-            hint::spin_loop();
-            if self.shared.has_asleep() {
-                self.shared.rouse_asleep();
+        let left = end.map_or(looks, |end| looks.min(end.saturating_duration_since(since)));
+        let until = since + left;
+        loop {
+            let mut lead = Lead::take(&self.shared);
+            if lead.is_none() {
+                if !self.shared.begin_look() {
+                    return;
+                }
+                lead = self.look_until(until);
+                self.shared.end_look();
             }
-            is_done()
-        };
-        while !(0..LOOKS_A_TIME).any(|_| is_found()) && since.elapsed() < looks {}
-        self.shared.end_look(is_done());
+            if let Some(lead) = lead {
+                lead.until(until, || self.is_done());
+            }
+            if self.is_done() {
+                return;
+            }
+            if Instant::now() >= until {
+                return self.shared.looked_in_vain();
+            }
+        }
+    }
+
+    // Looks until the answer has come, the node is left to this thread, or a time. Meanwhile it rouses others whose answers
+    // have come.
+    fn look_until(&self, until: Instant) -> Option<Lead<'_>> {
+        while Instant::now() < until {
+            for _ in 0..LOOKS_A_TIME {
+                hint::spin_loop();
+                self.shared.rouse_asleep();
+                if self.is_done() {
+                    return None;
+                }
+                let lead = Lead::take(&self.shared);
+                if lead.is_some() {
+                    return lead;
+                }
+            }
+        }
+        None
     }
 
     fn taken(&mut self, completed: Completed) -> Result<T, CallError> {
@@ -510,6 +552,9 @@ impl<T: Pass> Future for Call<T> {
         let mut slot = self.state.slot();
         let Some(completed) = slot.completed.take() else {
             slot.waker = Some(context.waker().clone());
+            drop(slot);
+            // Who awaits an answer turns nothing.
+            self.shared.seat().call_keeper();
             return Poll::Pending;
         };
         drop(slot);

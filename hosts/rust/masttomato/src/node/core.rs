@@ -767,6 +767,11 @@ impl Core {
         self.steps.pop_front()
     }
 
+    /// Whether there is something for the node's own thread alone: a method that is to run there, or the node's end.
+    pub(crate) fn wants_own_thread(&self) -> bool {
+        !self.steps.is_empty() || self.stops_at.is_some()
+    }
+
     /// A method has run: its outcome goes to who called it.
     pub(crate) fn done(&mut self, done: Done) {
         let Done { index, object, served, loans, end } = done;

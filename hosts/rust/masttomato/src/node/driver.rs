@@ -19,12 +19,16 @@ const LONGEST_SLEEP: Duration = Duration::from_secs(60);
 /// So long others are left to rouse those whose answers have come, while there is nothing else to do.
 const LEFT: Duration = Duration::from_micros(2);
 
+/// A driver on the thread that turns the node with it. From there it goes on to another one without being copied.
+#[allow(clippy::redundant_allocation)]
+pub(crate) type Driving = Rc<Box<Driver>>;
+
 thread_local! {
-    static DRIVERS: RefCell<Vec<Weak<Driver>>> = const { RefCell::new(Vec::new()) };
+    static DRIVERS: RefCell<Vec<Weak<Box<Driver>>>> = const { RefCell::new(Vec::new()) };
 }
 
 /// What turns the node of this on this thread, if anything does.
-pub(crate) fn driving(shared: &Arc<Shared>) -> Option<Rc<Driver>> {
+pub(crate) fn driving(shared: &Arc<Shared>) -> Option<Driving> {
     DRIVERS
         .try_with(|drivers| {
             let drivers = drivers.borrow();
@@ -35,7 +39,68 @@ pub(crate) fn driving(shared: &Arc<Shared>) -> Option<Rc<Driver>> {
         .flatten()
 }
 
-/// A node's tables and connections, on one thread. Nothing is borrowed while a method runs: so it may
+/// From now on this thread turns the node with a driver: what runs on it may ask the node, and turn it by waiting.
+pub(crate) fn on_this_thread(driver: Box<Driver>) -> Driving {
+    let driving = Rc::new(driver);
+    // Where the thread ends already it isn't known here: what runs then asks the node as other threads do.
+    let _known = DRIVERS.try_with(|drivers| {
+        let mut drivers = drivers.borrow_mut();
+        drivers.retain(|known| known.strong_count() > 0);
+        drivers.push(Rc::downgrade(&driving));
+    });
+    driving
+}
+
+/// Turns a node on its own thread until it was told to stop, then ends it: how many methods still run, and whether all peers
+/// that are connected were told. While callers that wait turn it, its own thread stands aside.
+pub(crate) fn keep(mut driver: Box<Driver>) -> (usize, bool) {
+    let (shared, desk) = (driver.shared.clone(), driver.desk.clone());
+    loop {
+        let driving = on_this_thread(driver);
+        if let Some(by) = driving.turn_until_left() {
+            return driving.end(by);
+        }
+        // Nothing that ran here has it any more.
+        let Some(left) = Rc::into_inner(driving) else { return (0, false) };
+        desk.does(Doing::Rests);
+        driver = shared.seat().stand_aside(left);
+        desk.does(Doing::Works);
+    }
+}
+
+/// A caller that turns the node while it waits for its answer.
+pub(crate) struct Lead<'a> {
+    shared: &'a Shared,
+    driving: Option<Driving>,
+    is_for_keeper: bool,
+}
+
+impl Lead<'_> {
+    /// Takes the driver, where nobody turns the node.
+    pub(crate) fn take(shared: &Shared) -> Option<Lead<'_>> {
+        let driving = Some(on_this_thread(shared.seat().take()?));
+        // Where this thread panics the node's own one goes on.
+        Some(Lead { shared, driving, is_for_keeper: true })
+    }
+
+    /// Turns the node until the answer is there, or until a time.
+    pub(crate) fn until(mut self, end: Instant, is_done: impl Fn() -> bool) {
+        if let Some(driving) = &self.driving {
+            self.is_for_keeper = driving.lead(end, is_done);
+        }
+    }
+}
+
+impl Drop for Lead<'_> {
+    fn drop(&mut self) {
+        if let Some(driver) = self.driving.take().and_then(Rc::into_inner) {
+            self.shared.seat().leave(driver, self.is_for_keeper);
+        }
+        self.shared.leave_rest();
+    }
+}
+
+/// A node's tables and connections, on the thread that turns it. Nothing is borrowed while a method runs: so it may
 /// ask the node, and turn it by waiting.
 pub(crate) struct Driver {
     core: RefCell<Core>,
@@ -43,6 +108,8 @@ pub(crate) struct Driver {
     shared: Arc<Shared>,
     started: Instant,
     rests: Cell<u32>,
+    // So many times callers aren't let turn the node, since there was a method to be carried out on its own thread.
+    keeps: Cell<u32>,
     commands: RefCell<Vec<Command>>,
     rouses: RefCell<Vec<Rouse>>,
     asleep: RefCell<Vec<Arc<CallState>>>,
@@ -50,25 +117,20 @@ pub(crate) struct Driver {
 }
 
 impl Driver {
-    pub(crate) fn new(core: Core, net: Net, shared: Arc<Shared>, started: Instant) -> Rc<Driver> {
+    pub(crate) fn new(core: Core, net: Net, shared: Arc<Shared>, started: Instant) -> Box<Driver> {
         let desk = shared.desks().open(format!("masttomato-{}", shared.id()));
-        let driver = Rc::new(Driver {
+        Box::new(Driver {
             core: RefCell::new(core),
             net: RefCell::new(net),
             shared,
             started,
             rests: Cell::new(0),
+            keeps: Cell::new(0),
             commands: RefCell::default(),
             rouses: RefCell::default(),
             asleep: RefCell::default(),
             desk,
-        });
-        DRIVERS.with(|drivers| {
-            let mut drivers = drivers.borrow_mut();
-            drivers.retain(|known| known.strong_count() > 0);
-            drivers.push(Rc::downgrade(&driver));
-        });
-        driver
+        })
     }
 
     fn now(&self) -> Duration {
@@ -95,30 +157,41 @@ impl Driver {
 
     /// Does what there is to do: whether there is more to do at once.
     pub(crate) fn turn(&self) -> bool {
+        self.turn_and(true)
+    }
+
+    // The same; but methods may be left to be carried out on the node's own thread.
+    fn turn_and(&self, carries_out: bool) -> bool {
         let now = self.now();
         self.take_commands();
         for peer in std::mem::take(&mut self.core.borrow_mut().opened) {
             self.net.borrow_mut().dial_soon(peer, now);
         }
         self.net.borrow_mut().read(&mut self.core.borrow_mut().engine, now);
-        loop {
+        self.core.borrow_mut().work(now);
+        while carries_out && self.make_all() {
             self.core.borrow_mut().work(now);
-            let mut did = false;
-            while let Some(step) = self.next_step() {
-                // Whoever has its answer needn't wait for the end of a method.
-                self.rouse(false);
-                self.make(step);
-                did = true;
-            }
-            if !did {
-                break;
-            }
         }
         self.core.borrow_mut().engine.fill(now);
         self.write(now);
         self.leave(now);
         let has_more = self.core.borrow().engine.has_more(now) || self.net.borrow().has_more();
         has_more || self.shared.has_commands()
+    }
+
+    // Makes all steps: whether there were any.
+    fn make_all(&self) -> bool {
+        let mut did = false;
+        while let Some(step) = self.next_step() {
+            // Whoever has its answer needn't wait for the end of a method.
+            self.rouse(false);
+            self.make(step);
+            did = true;
+        }
+        if did {
+            self.keeps.set(RESTS);
+        }
+        did
     }
 
     // By itself, so that nothing is borrowed while the step is made.
@@ -173,8 +246,8 @@ impl Driver {
         std::mem::swap(&mut rouses, &mut self.core.borrow_mut().rouses);
         for rouse in rouses.drain(..) {
             match rouse {
-                Rouse::Task(waker) => waker.wake(),
                 Rouse::Thread(state) => asleep.push(state),
+                task => task.rouse(),
             }
         }
         // A node without a thread may not be turned again for long.
@@ -186,21 +259,13 @@ impl Driver {
         self.asleep.replace(asleep);
     }
 
-    /// Waits for something to do, for so long at most: looks for a while, then sleeps.
-    pub(crate) fn rest(&self, limit: Duration) {
+    /// Waits for something to do, for so long at most: looks for a while, then sleeps. Or until that is over.
+    fn rest(&self, limit: Duration, is_over: impl Fn() -> bool) {
         let looks = self.shared.looks().min(limit);
-        let since = self.now();
         if self.rests.get() == 0 && !looks.is_zero() {
-            let mut now = since;
-            while now - since < looks {
-                if self.shared.has_commands() || self.look(now) {
-                    return;
-                }
-                if now - since > LEFT && self.shared.has_asleep() {
-                    self.shared.rouse_asleep();
-                }
-                hint::spin_loop();
-                now = self.now();
+            let now = self.now();
+            if self.look_until(now, now + looks, is_over) {
+                return;
             }
             self.rests.set(RESTS);
         } else {
@@ -218,6 +283,22 @@ impl Driver {
             self.shared.awake();
             self.desk.does(Doing::Works);
         }
+    }
+
+    // Looks until something comes, until that is over, or until a time: whether it isn't that time yet.
+    fn look_until(&self, since: Duration, end: Duration, is_over: impl Fn() -> bool) -> bool {
+        let mut now = since;
+        while now < end {
+            if self.shared.has_commands() || self.look(now) || is_over() {
+                return true;
+            }
+            if now - since > LEFT && self.shared.has_asleep() {
+                self.shared.rouse_asleep();
+            }
+            hint::spin_loop();
+            now = self.now();
+        }
+        false
     }
 
     // Whether anything came over a connection.
@@ -243,16 +324,48 @@ impl Driver {
                 Some(end) => end.checked_duration_since(Instant::now())?,
             };
             if !has_more {
-                self.rest(left);
+                self.rest(left, || false);
             }
         }
     }
 
-    /// Turns the node until it was told to stop, then ends it: how many methods still run, and whether
-    /// all peers that are connected were told.
-    pub(crate) fn run_to_the_end(&self) -> (usize, bool) {
-        let by = self.turn_until(None, || self.core.borrow().stops_at).unwrap_or_else(Instant::now);
-        self.end(by)
+    // Turns the node on its own thread until it was told to stop: by when it is to. Or until a caller is to turn it.
+    fn turn_until_left(&self) -> Option<Instant> {
+        loop {
+            let has_more = self.turn();
+            let stops_at = self.core.borrow().stops_at;
+            if stops_at.is_some() {
+                self.shared.rouse_asleep();
+                return stops_at;
+            }
+            let is_left = || self.keeps.get() == 0 && self.shared.is_looked_for();
+            if !has_more && is_left() {
+                return None;
+            }
+            self.keeps.set(self.keeps.get().saturating_sub(1));
+            if !has_more {
+                self.rest(LONGEST_SLEEP, is_left);
+            }
+        }
+    }
+
+    // Turns the node for a caller until its answer is there, or until a time: whether the node's own thread is to go on, which
+    // carries out the methods.
+    fn lead(&self, end: Instant, is_done: impl Fn() -> bool) -> bool {
+        let end = end.saturating_duration_since(self.started);
+        loop {
+            let has_more = self.turn_and(false);
+            if self.core.borrow().wants_own_thread() {
+                return true;
+            }
+            if is_done() {
+                return false;
+            }
+            let now = self.now();
+            if now >= end || !has_more && !self.look_until(now, end, || false) {
+                return true;
+            }
+        }
     }
 
     /// Ends the node by a time: methods go on to their ends, sessions close, and what is due is written.

@@ -1,7 +1,7 @@
 //! A node on the thread of whoever uses it.
 
 use super::call::Call;
-use super::driver::Driver;
+use super::driver::Driving;
 use super::hold::Remote;
 use super::named::Named;
 use super::shared::Shared;
@@ -13,7 +13,6 @@ use std::fmt;
 use std::future::Future;
 use std::net::SocketAddr;
 use std::pin::pin;
-use std::rc::Rc;
 use std::sync::Arc;
 use std::task::{Context, Poll, Wake, Waker};
 use std::time::{Duration, Instant};
@@ -37,7 +36,7 @@ use std::time::{Duration, Instant};
 /// # }
 /// ```
 pub struct LocalNode {
-    driver: Rc<Driver>,
+    driver: Driving,
     shared: Arc<Shared>,
     address: Option<SocketAddr>,
 }
@@ -57,7 +56,7 @@ impl Wake for Nobody {
 
 impl LocalNode {
     pub(super) fn new(
-        driver: Rc<Driver>,
+        driver: Driving,
         shared: Arc<Shared>,
         address: Option<SocketAddr>,
     ) -> LocalNode {

@@ -17,6 +17,7 @@ mod peers;
 mod pool;
 #[cfg_attr(not(feature = "tls"), allow(dead_code))]
 mod seal;
+mod seat;
 mod shared;
 mod spans;
 #[cfg(feature = "tls")]
@@ -35,7 +36,7 @@ pub use self::tls::{BadIdentity, Identity};
 
 use self::core::{Core, Heard};
 use self::door::Door;
-use self::driver::{Driver, driving};
+use self::driver::{Driver, driving, keep, on_this_thread};
 use self::net::{Net, WAKER};
 use self::pool::Pool;
 use self::seal::Sealer;
@@ -805,11 +806,10 @@ impl Builder {
         let pool = Pool::start(&shared, workers)?;
         let (says, said) = mpsc::sync_channel(1);
         let (run_pool, name) = (pool.clone(), format!("masttomato-{}", shared.id()));
-        // The space is made on the thread that has it, since it never leaves that.
         let run = move || match parts.driver(Some(run_pool)) {
             Ok(driver) => {
                 let _heard = says.send(Ok(()));
-                driver.run_to_the_end()
+                keep(driver)
             }
             Err(error) => {
                 let _heard = says.send(Err(error));
@@ -844,7 +844,7 @@ impl Builder {
     pub fn start_local(self) -> Result<LocalNode, NodeError> {
         let parts = self.parts()?;
         let (shared, address) = (parts.shared.clone(), parts.address);
-        Ok(LocalNode::new(parts.driver(None)?, shared, address))
+        Ok(LocalNode::new(on_this_thread(parts.driver(None)?), shared, address))
     }
 
     // All that can be made on any thread.
@@ -914,7 +914,7 @@ struct Parts {
 }
 
 impl Parts {
-    fn driver(self, pool: Option<Arc<Pool>>) -> Result<std::rc::Rc<Driver>, NodeError> {
+    fn driver(self, pool: Option<Arc<Pool>>) -> Result<Box<Driver>, NodeError> {
         let started = Instant::now();
         let (settings, now) = (self.settings, Duration::ZERO);
         let mut engine = match self.bounds {
@@ -968,8 +968,10 @@ impl Inner {
     fn shut_down(&self, limit: Duration) -> Shutdown {
         self.shared.post(Command::Stop(Instant::now() + limit));
         let thread = self.thread.lock().unwrap_or_else(PoisonError::into_inner).take();
-        // A node that is shut down by its own thread, as by an object's drop, ends later by itself.
-        let is_other = |thread: &JoinHandle<_>| thread.thread().id() != thread::current().id();
+        // A node that is shut down by the thread that turns it, as by an object's drop, ends later by itself.
+        let turns = driving(&self.shared).is_some();
+        let is_other =
+            |thread: &JoinHandle<_>| !turns && thread.thread().id() != thread::current().id();
         let ended = thread.filter(is_other).map(JoinHandle::join);
         self.pool.close();
         match ended {

@@ -25,6 +25,8 @@ const FIRST_WAIT: Duration = Duration::from_millis(50);
 const LONGEST_WAIT: Duration = Duration::from_secs(5);
 /// A peer that misbehaved isn't let in again for this.
 const SHUNNED: Duration = Duration::from_secs(1);
+/// The system is asked at least so often what came, also where there is always something to read.
+const POLLS: Duration = Duration::from_millis(1);
 /// So much is read of a peer in one turn.
 const PIECE: usize = 64 * 1024;
 
@@ -58,6 +60,9 @@ struct Dial {
 pub(crate) struct Net {
     poll: Poll,
     events: Events,
+    // Whether the system was asked since the last turn, and which turn saw that last.
+    is_polled: bool,
+    polled_at: Duration,
     listener: Option<TcpListener>,
     accepts: bool,
     /// Where connections are sealed: who comes, or is connected to, comes by this.
@@ -96,6 +101,8 @@ impl Net {
         Ok(Net {
             poll,
             events: Events::with_capacity(128),
+            is_polled: false,
+            polled_at: Duration::ZERO,
             listener,
             accepts: true,
             door,
@@ -132,6 +139,7 @@ impl Net {
     pub(crate) fn sleep(&mut self, limit: Duration) {
         // A poll that is interrupted is one that nothing came to.
         let _slept = self.poll.poll(&mut self.events, Some(limit));
+        self.is_polled = true;
         for event in &self.events {
             let Token(token) = event.token();
             if event.token() == LISTENER {
@@ -167,6 +175,12 @@ impl Net {
 
     /// Takes what came: whether anything did.
     pub(crate) fn read(&mut self, engine: &mut Engine, now: Duration) -> bool {
+        if !self.is_polled && now.saturating_sub(self.polled_at) >= POLLS {
+            self.sleep(Duration::ZERO);
+        }
+        if std::mem::take(&mut self.is_polled) {
+            self.polled_at = now;
+        }
         let mut did = self.accept(now);
         did |= self.let_in(engine, now);
         self.dial(now);

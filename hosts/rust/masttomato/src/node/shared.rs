@@ -7,6 +7,7 @@ use super::core::{Core, Done};
 use super::desks::Desks;
 use super::hold::Hold;
 use super::later::Turned;
+use super::seat::Seat;
 use crate::engine::Ticket;
 use crate::interface::{Description, Exported, Packed};
 use crate::space::{Reference, SpaceId};
@@ -62,6 +63,20 @@ pub(crate) enum Command {
     Stop(Instant),
 }
 
+impl Command {
+    // Whether somebody waits for it, and doesn't turn the node.
+    fn is_urgent(&self) -> bool {
+        matches!(
+            self,
+            Command::Done(_)
+                | Command::Cancel(_)
+                | Command::Turn(_)
+                | Command::Ask(_)
+                | Command::Stop(_)
+        )
+    }
+}
+
 #[derive(Default)]
 struct Line {
     commands: Vec<Command>,
@@ -104,6 +119,7 @@ pub struct Shared {
     tickets: Apart<AtomicU64>,
     lookers: Apart<Lookers>,
     left: Apart<Left>,
+    seat: Apart<Seat>,
     stopped: Mutex<bool>,
     stops: Condvar,
     desks: Desks,
@@ -136,6 +152,7 @@ impl Shared {
             tickets: Apart(AtomicU64::new(1)),
             lookers: Apart::default(),
             left: Apart::default(),
+            seat: Apart::default(),
             stopped: Mutex::new(false),
             stops: Condvar::new(),
             desks: Desks::default(),
@@ -159,28 +176,54 @@ impl Shared {
         self.looks
     }
 
-    /// How long whoever waits for an answer may look before it sleeps: not where another does, nor for
-    /// some times after that was in vain.
-    pub(crate) fn begin_look(&self) -> Option<Duration> {
-        let rest = |rests: u32| rests.checked_sub(1);
-        if self.looks.is_zero() || self.lookers.0.rests.fetch_update(Relaxed, Relaxed, rest).is_ok()
-        {
-            return None;
-        }
-        (!self.lookers.0.is_looked_for.swap(true, Relaxed)).then_some(self.looks)
+    pub(crate) fn seat(&self) -> &Seat {
+        &self.seat.0
     }
 
-    /// Who looked has ended: whether that was in vain.
-    pub(crate) fn end_look(&self, found: bool) {
-        self.lookers.0.is_looked_for.store(false, Relaxed);
-        if !found {
-            self.lookers.0.rests.store(RESTS, Relaxed);
+    /// How long whoever waits for an answer may look, or turn the node, before it sleeps: not for some times after that was
+    /// in vain.
+    pub(crate) fn may_look(&self) -> Option<Duration> {
+        let rest = |rests: u32| rests.checked_sub(1);
+        let rests = &self.lookers.0.rests;
+        let is_resting = rests.fetch_update(Relaxed, Relaxed, rest).is_ok();
+        (!is_resting && !self.looks.is_zero()).then_some(self.looks)
+    }
+
+    /// Whether who asks looks from now on: not where another does.
+    pub(crate) fn begin_look(&self) -> bool {
+        !self.is_looked_for() && !self.lookers.0.is_looked_for.swap(true, SeqCst)
+    }
+
+    /// Who looked has ended, or turns the node.
+    pub(crate) fn end_look(&self) {
+        self.lookers.0.is_looked_for.store(false, SeqCst);
+        self.leave_rest();
+    }
+
+    /// Whether a caller looks for its answer, and turns the node where nobody else does.
+    pub(crate) fn is_looked_for(&self) -> bool {
+        self.lookers.0.is_looked_for.load(SeqCst)
+    }
+
+    /// An answer was looked for in vain.
+    pub(crate) fn looked_in_vain(&self) {
+        self.lookers.0.rests.store(RESTS, Relaxed);
+    }
+
+    /// Who turned the node, or looked, goes. What is in the line or left asleep is the node's own thread's, where nobody looks.
+    pub(crate) fn leave_rest(&self) {
+        if self.is_looked_for() {
+            return;
+        }
+        self.rouse_asleep();
+        if self.has_commands() {
+            self.seat().call_keeper();
         }
     }
 
     /// Leaves threads that sleep to be roused by who looks, if anybody does: whether it was left to that.
     pub(crate) fn leave_asleep(&self, all: &mut Vec<Arc<CallState>>) -> bool {
-        let is_looked_for = self.lookers.0.is_looked_for.load(Relaxed);
+        let is_looked_for = self.is_looked_for();
         if is_looked_for {
             unpoisoned(self.left.0.all.lock()).append(all);
             self.left.0.has_some.store(true, SeqCst);
@@ -190,12 +233,12 @@ impl Shared {
 
     /// Whether there are threads to be roused.
     pub(crate) fn has_asleep(&self) -> bool {
-        self.left.0.has_some.load(Relaxed)
+        self.left.0.has_some.load(SeqCst)
     }
 
     /// Rouses threads that were left asleep.
     pub(crate) fn rouse_asleep(&self) {
-        if self.left.0.has_some.swap(false, SeqCst) {
+        if self.has_asleep() && self.left.0.has_some.swap(false, SeqCst) {
             let all = std::mem::take(&mut *unpoisoned(self.left.0.all.lock()));
             all.iter().for_each(|state| state.rouse());
         }
@@ -214,12 +257,15 @@ impl Shared {
             drop(command);
             return false;
         }
+        let is_urgent = command.is_urgent();
         line.commands.push(command);
         self.bell.0.has_commands.store(true, SeqCst);
         drop(line);
-        if self.bell.0.sleeps.swap(false, SeqCst) {
+        if self.bell.0.sleeps.load(SeqCst) && self.bell.0.sleeps.swap(false, SeqCst) {
             // A waker that fails has nobody to wake.
             let _woken = self.bell.0.waker.wake();
+        } else if is_urgent {
+            self.seat().call_keeper();
         }
         true
     }
@@ -227,6 +273,7 @@ impl Shared {
     /// Has the node's thread turn, whether it sleeps or is about to: for who left it something elsewhere than in the line.
     pub(crate) fn rouse(&self) {
         let _woken = self.bell.0.waker.wake();
+        self.seat().call_keeper();
     }
 
     pub(crate) fn has_commands(&self) -> bool {

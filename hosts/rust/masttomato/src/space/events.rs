@@ -71,7 +71,8 @@ use masttomato_sys::{Handle, Told};
 /// What the library tells is believed: where it is of another version than this crate and tells a number that
 /// this crate doesn't know, the method that asked panics.
 ///
-/// A space stays on the thread that made it: it is neither `Send` nor `Sync`.
+/// A space is one thread's at a time: it is `Send`, and not `Sync`. That it may go to another thread isn't proved of the library,
+/// but rests on reading: it owns all that it has.
 ///
 /// ```compile_fail
 /// fn sent(space: masttomato::space::Space) {

@@ -96,8 +96,8 @@ pub struct Handle {
     waiting: VecDeque<Vec<u8>>,
     value: Option<Vec<u8>>,
     answer: Vec<u8>,
-    // It stays on its thread, as the library's does.
-    stays: PhantomData<*const ()>,
+    // It is one thread's at a time, as the library's is.
+    stays: PhantomData<Cell<()>>,
 }
 
 thread_local! {
