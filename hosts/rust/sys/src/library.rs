@@ -119,9 +119,8 @@ unsafe extern "C" {
 pub struct Handle(UnsafeCell<RawHandle>);
 
 // SAFETY: a handle may go to another thread, to which whoever moves it hands on all that was written before. That isn't
-// proved of the library; it rests on reading: what is behind the handle is memory that this space alone has, by `malloc`, which takes
-// memory back from any thread, and the library has nothing else: no static that is written, and nothing of a thread's own. That its
-// archive has no place for these is tested (`tests/archive.rs`).
+// proved of the library; it rests on reading. What is behind the handle is memory that this space alone has. It comes by `malloc`
+// and goes by `free`, each on any thread, and the library has nothing else: no static that is written, and nothing of a thread's own.
 unsafe impl Send for Handle {}
 
 impl fmt::Debug for Handle {

@@ -22,7 +22,7 @@ use things::*;
 const LOOKS: Duration = Duration::from_millis(20);
 
 #[interface]
-pub trait Place {
+trait Place {
     /// On which thread it runs.
     fn thread(&mut self) -> String;
     /// The same, and it takes so many milliseconds.

@@ -208,13 +208,19 @@ pub fn eventually(what: &str, mut holds: impl FnMut() -> bool) {
     }
 }
 
+// How long callers look, and turn their node: not at all, or so many microseconds as MASTTOMATO_LOOKS says.
+fn looks() -> Duration {
+    let said = std::env::var("MASTTOMATO_LOOKS").ok().and_then(|micros| micros.parse().ok());
+    Duration::from_micros(said.unwrap_or(0))
+}
+
 /// Nodes of a world of so many, each of which knows those below it, with what each one's builder is told.
 pub fn nodes(count: u16, tell: impl Fn(masttomato::Builder) -> masttomato::Builder) -> Vec<Node> {
     let mut peers = Peers::none();
     (1..=count)
         .map(|number| {
             let builder = Node::builder(id(number), peers.clone());
-            let builder = builder.listen("127.0.0.1:0").spaces(id(count)).looks(Duration::ZERO);
+            let builder = builder.listen("127.0.0.1:0").spaces(id(count)).looks(looks());
             let node = tell(builder).start().expect("a node");
             peers = peers.clone().with(id(number), node.address().expect("it listens"));
             node
