@@ -16,7 +16,11 @@ use std::fmt;
 use std::sync::atomic::Ordering::{Relaxed, SeqCst};
 use std::sync::atomic::{AtomicBool, AtomicU32, AtomicU64};
 use std::sync::{Arc, Condvar, Mutex, MutexGuard, PoisonError, mpsc};
+use std::thread;
 use std::time::{Duration, Instant};
+
+/// So many callers look for their answers at once, where there are enough processors.
+const MOST_LOOKERS: usize = 4;
 
 /// Where looking was in vain, it isn't tried for so many times.
 pub(crate) const RESTS: u32 = 20;
@@ -96,10 +100,20 @@ struct Bell {
 }
 
 /// Who looks for answers, or may.
-#[derive(Default)]
 struct Lookers {
     rests: AtomicU32,
-    is_looked_for: AtomicBool,
+    count: AtomicU32,
+    /// So many at most.
+    most: u32,
+}
+
+impl Default for Lookers {
+    // Half of the processors at most: the others are for who brings the answers.
+    fn default() -> Lookers {
+        let processors = thread::available_parallelism().map_or(1, usize::from);
+        let most = (processors / 2).clamp(1, MOST_LOOKERS) as u32;
+        Lookers { rests: AtomicU32::new(0), count: AtomicU32::new(0), most }
+    }
 }
 
 /// Threads that sleep though their answers have come. Who looks rouses them in place of the node's thread, which does it in the
@@ -189,20 +203,21 @@ impl Shared {
         (!is_resting && !self.looks.is_zero()).then_some(self.looks)
     }
 
-    /// Whether who asks looks from now on: not where another does.
+    /// Whether who asks looks from now on: not where enough others do.
     pub(crate) fn begin_look(&self) -> bool {
-        !self.is_looked_for() && !self.lookers.0.is_looked_for.swap(true, SeqCst)
+        let one_more = |count: u32| (count < self.lookers.0.most).then_some(count + 1);
+        self.lookers.0.count.fetch_update(SeqCst, SeqCst, one_more).is_ok()
     }
 
     /// Who looked has ended, or turns the node.
     pub(crate) fn end_look(&self) {
-        self.lookers.0.is_looked_for.store(false, SeqCst);
+        self.lookers.0.count.fetch_sub(1, SeqCst);
         self.leave_rest();
     }
 
     /// Whether a caller looks for its answer, and turns the node where nobody else does.
     pub(crate) fn is_looked_for(&self) -> bool {
-        self.lookers.0.is_looked_for.load(SeqCst)
+        self.lookers.0.count.load(SeqCst) > 0
     }
 
     /// An answer was looked for in vain.
