@@ -303,7 +303,7 @@ const CALLERS: usize = 3;
 #[derive(Clone, Copy, PartialEq, Eq, Hash, Debug)]
 enum Seat {
     Free,
-    Keeper,
+    Own,
     Caller(usize),
 }
 
@@ -341,15 +341,15 @@ impl Led {
         self.done = self.replied;
     }
 
-    // The steps of `Seat::call_keeper`.
-    fn call_keeper(&mut self) {
+    // The steps of `Seat::call_own_thread`.
+    fn call_own_thread(&mut self) {
         self.is_called |= self.seat == Seat::Free && !self.is_kept;
     }
 
     // The steps of `Shared::leave_rest`.
     fn leave_rest(&mut self) {
         if !self.is_looked_for && self.has_commands() {
-            self.call_keeper();
+            self.call_own_thread();
         }
     }
 
@@ -383,7 +383,7 @@ fn call(led: &Led, caller: usize) -> Vec<Led> {
     let is_awaited = caller + 1 == CALLERS;
     match led.places[caller] {
         POSTS => goes(COMES, &|led| led.posted[caller] = true),
-        COMES if is_awaited => goes(ENDS, &|led| led.call_keeper()),
+        COMES if is_awaited => goes(ENDS, &|led| led.call_own_thread()),
         COMES if led.clone().lead(caller) => goes(LEADS, &|led| assert!(led.lead(caller))),
         COMES if led.is_looked_for => goes(SLEEPS, &|_| {}),
         COMES => goes(LOOKS, &|led| led.is_looked_for = true),
@@ -404,22 +404,22 @@ fn call(led: &Led, caller: usize) -> Vec<Led> {
         GOES => goes(ENDS, &Led::leave_rest),
         VAIN => goes(SLEEPS, &Led::leave_rest),
         // It has called the node's own thread, and sleeps.
-        SLEEPS => goes(ENDS, &|led| led.call_keeper()),
+        SLEEPS => goes(ENDS, &|led| led.call_own_thread()),
         _ => {}
     }
     next.retain(|next| next != led);
     next
 }
 
-// The next steps of the node's own thread: `keep`, and `Seat::stand_aside`, with ticks or without.
-fn keep(led: &Led, has_ticks: bool) -> Vec<Led> {
+// The next steps of the node's own thread: `run`, and `Seat::stand_aside`, with ticks or without.
+fn own(led: &Led, has_ticks: bool) -> Vec<Led> {
     let mut next = led.clone();
     match led.seat {
-        Seat::Keeper if led.has_commands() || led.has_replies() => next.turn(),
-        Seat::Keeper if led.is_looked_for => next.seat = Seat::Free,
-        Seat::Keeper => next.sleeps = true,
+        Seat::Own if led.has_commands() || led.has_replies() => next.turn(),
+        Seat::Own if led.is_looked_for => next.seat = Seat::Free,
+        Seat::Own => next.sleeps = true,
         Seat::Free if led.is_kept || led.is_called || (has_ticks && !led.led) => {
-            (next.seat, next.is_kept, next.is_called) = (Seat::Keeper, false, false);
+            (next.seat, next.is_kept, next.is_called) = (Seat::Own, false, false);
         }
         _ if has_ticks => next.led = false,
         _ => {}
@@ -432,7 +432,7 @@ fn keep(led: &Led, has_ticks: bool) -> Vec<Led> {
 fn explore_leads(has_ticks: bool) -> (usize, usize) {
     let none = [false; CALLERS];
     let first = Led {
-        seat: Seat::Keeper,
+        seat: Seat::Own,
         is_kept: false,
         is_called: false,
         is_looked_for: false,
@@ -447,7 +447,7 @@ fn explore_leads(has_ticks: bool) -> (usize, usize) {
     let (mut known, mut left, mut lost) = (HashSet::from([first.clone()]), vec![first], 0);
     while let Some(led) = left.pop() {
         let mut next: Vec<Led> = (0..CALLERS).flat_map(|caller| call(&led, caller)).collect();
-        next.extend(keep(&led, has_ticks));
+        next.extend(own(&led, has_ticks));
         for caller in (0..CALLERS).filter(|caller| led.sent[*caller] && !led.replied[*caller]) {
             let mut answered = led.clone();
             answered.replied[caller] = true;

@@ -459,7 +459,7 @@ impl<T: Pass> Call<T> {
         self.look(end);
         // Nobody may turn the node now, and who sleeps doesn't either.
         if !self.is_done() {
-            self.shared.seat().call_keeper();
+            self.shared.seat().call_own_thread();
         }
         let _waits = Waits::until(&self.state);
         let mut slot = self.state.slot();
@@ -554,7 +554,7 @@ impl<T: Pass> Future for Call<T> {
             slot.waker = Some(context.waker().clone());
             drop(slot);
             // Who awaits an answer turns nothing.
-            self.shared.seat().call_keeper();
+            self.shared.seat().call_own_thread();
             return Poll::Pending;
         };
         drop(slot);

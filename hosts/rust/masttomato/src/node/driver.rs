@@ -53,7 +53,7 @@ pub(crate) fn on_this_thread(driver: Box<Driver>) -> Driving {
 
 /// Turns a node on its own thread until it was told to stop, then ends it: how many methods still run, and whether all peers
 /// that are connected were told. While callers that wait turn it, its own thread stands aside.
-pub(crate) fn keep(mut driver: Box<Driver>) -> (usize, bool) {
+pub(crate) fn run(mut driver: Box<Driver>) -> (usize, bool) {
     let (shared, desk) = (driver.shared.clone(), driver.desk.clone());
     loop {
         let driving = on_this_thread(driver);
@@ -72,7 +72,7 @@ pub(crate) fn keep(mut driver: Box<Driver>) -> (usize, bool) {
 pub(crate) struct Lead<'a> {
     shared: &'a Shared,
     driving: Option<Driving>,
-    is_for_keeper: bool,
+    is_for_own_thread: bool,
 }
 
 impl Lead<'_> {
@@ -80,13 +80,13 @@ impl Lead<'_> {
     pub(crate) fn take(shared: &Shared) -> Option<Lead<'_>> {
         let driving = Some(on_this_thread(shared.seat().take()?));
         // Where this thread panics the node's own one goes on.
-        Some(Lead { shared, driving, is_for_keeper: true })
+        Some(Lead { shared, driving, is_for_own_thread: true })
     }
 
     /// Turns the node until the answer is there, or until a time.
     pub(crate) fn until(mut self, end: Instant, is_done: impl Fn() -> bool) {
         if let Some(driving) = &self.driving {
-            self.is_for_keeper = driving.lead(end, is_done);
+            self.is_for_own_thread = driving.lead(end, is_done);
         }
     }
 }
@@ -94,7 +94,7 @@ impl Lead<'_> {
 impl Drop for Lead<'_> {
     fn drop(&mut self) {
         if let Some(driver) = self.driving.take().and_then(Rc::into_inner) {
-            self.shared.seat().leave(driver, self.is_for_keeper);
+            self.shared.seat().leave(driver, self.is_for_own_thread);
         }
         self.shared.leave_rest();
     }
@@ -109,7 +109,7 @@ pub(crate) struct Driver {
     started: Instant,
     rests: Cell<u32>,
     // So many times callers aren't let turn the node, since there was a method to be carried out on its own thread.
-    keeps: Cell<u32>,
+    stays: Cell<u32>,
     commands: RefCell<Vec<Command>>,
     rouses: RefCell<Vec<Rouse>>,
     asleep: RefCell<Vec<Arc<CallState>>>,
@@ -125,7 +125,7 @@ impl Driver {
             shared,
             started,
             rests: Cell::new(0),
-            keeps: Cell::new(0),
+            stays: Cell::new(0),
             commands: RefCell::default(),
             rouses: RefCell::default(),
             asleep: RefCell::default(),
@@ -189,7 +189,7 @@ impl Driver {
             did = true;
         }
         if did {
-            self.keeps.set(RESTS);
+            self.stays.set(RESTS);
         }
         did
     }
@@ -338,11 +338,11 @@ impl Driver {
                 self.shared.rouse_asleep();
                 return stops_at;
             }
-            let is_left = || self.keeps.get() == 0 && self.shared.is_looked_for();
+            let is_left = || self.stays.get() == 0 && self.shared.is_looked_for();
             if !has_more && is_left() {
                 return None;
             }
-            self.keeps.set(self.keeps.get().saturating_sub(1));
+            self.stays.set(self.stays.get().saturating_sub(1));
             if !has_more {
                 self.rest(LONGEST_SLEEP, is_left);
             }

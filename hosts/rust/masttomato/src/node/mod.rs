@@ -36,7 +36,7 @@ pub use self::tls::{BadIdentity, Identity};
 
 use self::core::{Core, Heard};
 use self::door::Door;
-use self::driver::{Driver, driving, keep, on_this_thread};
+use self::driver::{Driver, driving, on_this_thread};
 use self::net::{Net, WAKER};
 use self::pool::Pool;
 use self::seal::Sealer;
@@ -663,8 +663,8 @@ impl Builder {
         self
     }
 
-    /// For how long a thread that waits looks before it sleeps; 50 microseconds where it isn't said.
-    /// That is most of the speed where there are processors for it, and a loss where there aren't.
+    /// For how long a thread that waits looks before it sleeps, and turns the node where nobody else does; 50 microseconds where it
+    /// isn't said. That is most of the speed where there are processors for it, and a loss where there aren't.
     ///
     /// ```
     /// # use masttomato::{Node, Peers, SpaceId};
@@ -809,7 +809,7 @@ impl Builder {
         let run = move || match parts.driver(Some(run_pool)) {
             Ok(driver) => {
                 let _heard = says.send(Ok(()));
-                keep(driver)
+                driver::run(driver)
             }
             Err(error) => {
                 let _heard = says.send(Err(error));

@@ -62,7 +62,7 @@ impl Seat {
     }
 
     /// Has the node's own thread turn the node at once, where nobody does.
-    pub(crate) fn call_keeper(&self) {
+    pub(crate) fn call_own_thread(&self) {
         if self.is_free.load(SeqCst) {
             self.place().is_called = true;
             self.calls.notify_one();
@@ -80,7 +80,8 @@ impl Seat {
                 Ok((place, _)) => place,
                 Err(poisoned) => poisoned.into_inner().0,
             };
-            let is_its = place.is_kept || std::mem::take(&mut place.is_called) || place.leads == seen;
+            let is_called = std::mem::take(&mut place.is_called);
+            let is_its = is_called || place.is_kept || place.leads == seen;
             if let Some(driver) = place.driver.take_if(|_| is_its) {
                 place.is_kept = false;
                 self.is_free.store(false, SeqCst);

@@ -232,7 +232,7 @@ impl Shared {
         }
         self.rouse_asleep();
         if self.has_commands() {
-            self.seat().call_keeper();
+            self.seat().call_own_thread();
         }
     }
 
@@ -280,7 +280,7 @@ impl Shared {
             // A waker that fails has nobody to wake.
             let _woken = self.bell.0.waker.wake();
         } else if is_urgent {
-            self.seat().call_keeper();
+            self.seat().call_own_thread();
         }
         true
     }
@@ -288,7 +288,7 @@ impl Shared {
     /// Has the node's thread turn, whether it sleeps or is about to: for who left it something elsewhere than in the line.
     pub(crate) fn rouse(&self) {
         let _woken = self.bell.0.waker.wake();
-        self.seat().call_keeper();
+        self.seat().call_own_thread();
     }
 
     pub(crate) fn has_commands(&self) -> bool {

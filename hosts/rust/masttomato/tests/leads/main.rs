@@ -18,8 +18,8 @@ use std::thread::{self, ThreadId};
 use std::time::{Duration, Instant};
 use things::*;
 
-/// So long callers look: longer than a busy machine keeps a peer waiting, so that they do turn their node.
-const LOOKS: Duration = Duration::from_millis(20);
+/// So long callers look, so that they do turn their node also on a busy machine.
+const LOOKS: Duration = Duration::from_millis(2);
 
 #[interface]
 trait Place {
