@@ -1,0 +1,3 @@
+pub use Rattle.nob_model_watch.specs.Next
+pub mod Reruns
+pub mod Heads
