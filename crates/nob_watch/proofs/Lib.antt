@@ -1,2 +1,1 @@
 pub mod Reruns
-pub mod Heads

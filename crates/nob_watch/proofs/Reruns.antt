@@ -1,7 +1,7 @@
 -- What one entry more leaves of a run that is followed.
 use Rattle.std.proofs.Common.{◌≡◌, ◌≢◌, ◌⊎◌, ◌↔◌, ℕ, ◌+◌, ◌-◌, ◌≤◌, ◌<◌, ◌^◌, Bool, true, false, cond, ◌==◌, List, [], ◌∷◌, ◌++◌, length, map, filter, reverse, get_or, slice_get, Option, Some, None, inl, inr, refl, sym, ap, subst, ◌∙◌, arith}
 use Prim.Native.Nat.{zero, suc}
-use Rattle.std.specs.Prelude.{Result, Ok, Err}
+use Rattle.std.specs.Prelude.{Result, Ok, Err, IfOk, OnErr}
 use Rattle.std.specs.List.{AllByRecursion, Contains}
 use Rattle.std.proofs.lemmas.Option.{slice_get_read}
 use lib.ListN.{set}
@@ -19,15 +19,18 @@ use Rattle.nob_model_journal.specs.Runs.{ArrivesGiven, IsOfWorld, WorldRun}
 use Rattle.nob_model_invariant.specs.Safe.{IsSafe}
 use Rattle.nob_model_invariant.proofs.Safe.{safe_law}
 use Rattle.nob_model_invariant.specs.Typed.{IsOfTypes}
-use Rattle.nob_model_watch.specs.Next.{CanPass}
+use Rattle.nob_model_watch.specs.Next.{CanPass, place_of, stray_fault}
+use Rattle.nob_model_watch.specs.declared.fault.WatchFault.{WatchFault}
+use Rattle.nob_model_watch.specs.declared.fault.WatchFault.TheVariants as faults
+use Rattle.nob_recall.specs.Recalls.{Recalled}
 use Rattle.nob_model_watch.specs.Remembering.{ArrivesRemembered, memory}
 use Rattle.nob_model_watch.proofs.Forgetting.{remembered_were_transmitted}
-use Rattle.nob_table_rows.proofs.Flat.{get_set_other}
 use Rattle.nob_space.specs.Spaces.{Owner, StandsFor, SameSpace, entry_of}
-use Rattle.nob_watch.specs.declared.dated.Dated.{Dated}
+use Rattle.nob_told.specs.declared.dated.Dated.{Dated}
+use Rattle.nob_told.proofs.Dues.{placed, set_other}
 use Rattle.nob_asked.specs.Sealing.{is_whole_seal}
-use Rattle.nob_watch.specs.declared.dated.SegmentSeal.{SegmentSeal}
-use Rattle.nob_watch.specs.Reruns.{journal_of, is_sealed, AreSealed, AreLimits, IsMember, AreMembers, ArePlaces, IsRun, IsAnswered, IsAsked, IsSealFault}
+use Rattle.nob_told.specs.declared.dated.SegmentSeal.{SegmentSeal}
+use Rattle.nob_watch.specs.Reruns.{journal_of, is_sealed, AreSealed, AreLimits, IsMember, AreMembers, ArePlaces, IsRun, IsAnswered, IsAsked, IsSealFault, IsFaultBy, IsOriginFault, IsJudged}
 
 -- ---- journals
 
@@ -60,11 +63,6 @@ reverse_length : {X : Type 0} (xs : List X) → length (reverse xs) ≡ length x
 reverse_length xs = search rules
 
 -- ---- lists
-
-pub placed : {X : Type 0} (xs : List X) (k : ℕ) (x y : X) → slice_get xs k ≡ Some y → slice_get (set xs k x) k ≡ Some x
-placed [] k x y is = absurd cc
-placed (z ∷ zs) zero x y is = refl
-placed (z ∷ zs) (suc k) x y is = placed zs k x y is
 
 -- an element that was read stands at its place
 pub read_there : {X : Type 0} (xs : List X) (p k : ℕ) (x : X) → k ≡ p - 1 → 1 ≤ p → p ≤ length xs → x ≡ get_or xs k x → slice_get xs (p - 1) ≡ Some x
@@ -103,7 +101,7 @@ members_changed n list spaces J J' p old new members low there same stands other
         subst (λ (q : ℕ). IsMember n list J' q space) next (subst (IsMember n list J' p) (sym is) its)
     by place space got false elsewhere =
         let apart : place ≡ p - 1 → ⊥ = λ e. let holds : true ≡ false = sym ((Decides-eqb place (p - 1)).1 e) ∙ elsewhere in absurd cc in
-        let own = members.stand place space (sym (get_set_other spaces (p - 1) place new apart) ∙ got) in
+        let own = members.stand place space (sym (set_other spaces (p - 1) place new apart) ∙ got) in
         let differs : (p == place + 1) ≡ false = grind (arith, nat_tests, elsewhere, low) in
         record {
           id = own.id;
@@ -169,6 +167,16 @@ module _ {n : ℕ} {list : List Limits} {J : List Entry} {spaces : List Owner} {
   asked_of true right stands typed = (members_more (stands refl), typed_of (typed refl), λ its there. by_world its there ((right (at entry.space J) member_of.stands).0 refl))
   asked_of false right stands typed = λ its there is. (let holds : false ≡ true = (right (at entry.space J) member_of.stands).1 (by_space its there is) in absurd cc)
 
+  -- the same, whatever came of it
+  pub asked_by : {E : Type 0} (result : Result Bool E)
+      → IfOk result (λ same. (L : List Entry) → StandsFor old L → (same ≡ true) ↔ IsRight old.id old.n old.limits (entry_of old.id entry.event entry.result) L)
+      → IfOk result (λ same. same ≡ true → (L : List Entry) → StandsFor old L → StandsFor new (entry_of old.id entry.event entry.result ∷ L))
+      → IfOk result (λ same. same ≡ true → IsOfTypes (entry_of old.id entry.event entry.result))
+      → OnErr result ((L : List Entry) → StandsFor old L → StandsFor new L)
+      → IsAsked n list J (set spaces k new) entry result
+  asked_by (Ok same) right stands typed err = asked_of same right stands typed
+  asked_by (Err error) right stands typed err = members_kept err
+
 -- ---- seals
 
 pub seal_of : (n : ℕ) (list : List Limits) (J : List Entry) (spaces : List Owner) (dated : Dated) (k : ℕ) (space : Owner) (own : SegmentSeal) (right : Bool)
@@ -183,6 +191,47 @@ seal_of n list J spaces dated k space own right are number low high is said =
 
     member : IsMember n list J dated.entry.space space
     member = subst (λ (q : ℕ). IsMember n list J q space) (let one : dated.entry.space - 1 + 1 ≡ dated.entry.space = omega (arith, low) in one) (are.stand (dated.entry.space - 1) space there)
+
+pub seal_none : (n stamp space : ℕ) (J : List Entry) (seal : Option SegmentSeal) → seal ≡ None → is_sealed n stamp space J seal ≡ true
+seal_none n stamp space J seal is = ap (is_sealed n stamp space J) is
+
+-- ---- what is wrong with the next entry
+
+-- its space answers otherwise
+pub judged_wrong : (n : ℕ) (list : List Limits) (span : ℕ) (dated : Dated) (J : List Entry) (spaces : List Owner) (place : ℕ) (same : Bool)
+    → place ≡ place_of dated.entry J → same ≡ false → IsAnswered n list J spaces dated.entry same → IsFaultBy n list span dated J (faults.NotARun dated.entry.space place)
+judged_wrong n list span dated J spaces place same is fails answered =
+    let other = subst (IsAnswered n list J spaces dated.entry) fails answered in
+    λ its there. inl (inl (ap (faults.NotARun dated.entry.space) is, other its there))
+
+-- or its frame has no origin
+pub judged_stray : (n : ℕ) (list : List Limits) (span : ℕ) (dated : Dated) (J : List Entry) (spaces : List Owner) (place : ℕ) (fault : WatchFault) (same : Bool)
+    → place ≡ place_of dated.entry J → same ≡ true → IsAnswered n list J spaces dated.entry same → IsOriginFault span dated.entry J place (Some fault) → IsFaultBy n list span dated J fault
+judged_stray n list span dated J spaces place fault same is holds answered origin =
+    let so = subst (IsAnswered n list J spaces dated.entry) holds answered in
+    λ its there. inl (inr (record {
+      right = so.1.1 its there;
+      frame = origin.0;
+      arrives = origin.1;
+      stray = (origin.2.0, origin.2.1 ∙ ap (stray_fault origin.0 J dated.entry.space) is);
+    }))
+
+-- or the seal behind it is wrong, or nothing is wrong
+pub judged_seal : {E : Type 0} (n : ℕ) (list : List Limits) (recall : Recalled) (dated : Dated) (J : List Entry) (spaces : List Owner) (place : ℕ) (found : Option WatchFault) (same : Bool)
+    → same ≡ true → IsAnswered n list J spaces dated.entry same → IsOriginFault recall.span dated.entry J place None → IsSealFault n dated (dated.entry ∷ J) found → IsJudged {E = E} n list J spaces recall dated (Ok found)
+judged_seal n list recall dated J spaces place None same holds answered origin sealed =
+    let so = subst (IsAnswered n list J spaces dated.entry) holds answered in
+    (so.0, so.1.0, record { can = λ its there. record { right = so.1.1 its there; arrives = origin }; sealed = sealed })
+judged_seal n list recall dated J spaces place (Some fault) same holds answered origin sealed =
+    let so = subst (IsAnswered n list J spaces dated.entry) holds answered in
+    λ its there. inr (record { right = so.1.1 its there; arrives = origin }, sealed)
+
+-- the place that is kept is that of the next entry
+pub place_is : (n : ℕ) (J : List Entry) (places : List ℕ) (entry : Entry) (k place : ℕ) → ArePlaces n J places → k ≡ entry.space - 1 → 1 ≤ entry.space → entry.space ≤ length places → place ≡ get_or places k place → place ≡ place_of entry J
+place_is n J places entry k place are number low high is =
+    let there = read_there places entry.space k place number low high is in
+    let most : entry.space ≤ n = subst (λ (l : ℕ). entry.space ≤ l) are.each high in
+    let both : Some place ≡ Some (length (at entry.space J) + 1) = sym there ∙ are.next entry.space low most in cc
 
 -- ---- places
 
@@ -206,7 +255,7 @@ places_more n J places entry k value are number low high there = record {
     by p first last true here = subst (λ (q : ℕ). slice_get (set places k (value + 1)) (q - 1) ≡ Some (length (at q (entry ∷ J)) + 1)) ((Decides-eqb entry.space p).0 here) own
     by p first last false elsewhere =
         let apart : p - 1 ≡ k → ⊥ = λ e. let two : p - 1 ≡ entry.space - 1 = e ∙ number in let one : entry.space ≡ p = omega (arith, two, low, first) in let holds : true ≡ false = sym ((Decides-eqb entry.space p).1 one) ∙ elsewhere in absurd cc in
-        get_set_other places k (p - 1) (value + 1) apart ∙ are.next p first last ∙ ap (λ (L : List Entry). Some (length L + 1)) (sym (at_other entry p J elsewhere))
+        set_other places k (p - 1) (value + 1) apart ∙ are.next p first last ∙ ap (λ (L : List Entry). Some (length L + 1)) (sym (at_other entry p J elsewhere))
 
 -- the next place of a space is a number
 pub place_low : (n : ℕ) (passed : List Dated) (places : List ℕ) (p place : ℕ) → ArePlaces n (journal_of passed) places → 1 ≤ p → p ≤ n → slice_get places (p - 1) ≡ Some place → length passed < 2 ^ 62 → place < 2 ^ 63

@@ -15,8 +15,8 @@ use Rattle.nob_model_watch.specs.declared.fault.WatchFault.{WatchFault}
 use Rattle.nob_model_watch.specs.declared.fault.WatchFault.TheVariants as faults
 use Rattle.nob_space.specs.Spaces.{Owner, StandsFor}
 use Rattle.nob_asked.specs.Sealing.{is_whole_seal}
-use Rattle.nob_watch.specs.declared.dated.Dated.{Dated}
-use Rattle.nob_watch.specs.declared.dated.SegmentSeal.{SegmentSeal}
+use Rattle.nob_told.specs.declared.dated.Dated.{Dated}
+use Rattle.nob_told.specs.declared.dated.SegmentSeal.{SegmentSeal}
 use Rattle.nob_recall.specs.Recalls.{Recalled, Recalls}
 
 -- what was passed, as a journal

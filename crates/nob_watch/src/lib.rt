@@ -3,14 +3,11 @@
 //! the frames that may still arrive. All that it has passed is a run of a world, and safe.
 #![tactic(auto)]
 
-mod dated;
-mod head;
 mod making;
 mod rerun;
 mod watch;
 
-pub use dated::{Dated, SegmentSeal};
-pub use head::Head;
 pub use nob_model_watch::{WatchError, WatchFault};
+pub use nob_told::{Dated, Heads, SegmentSeal};
 pub use rerun::Rerun;
 pub use watch::Watch;

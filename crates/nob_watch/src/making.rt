@@ -9,7 +9,6 @@ ghost use Rattle.nob_model_watch.specs.Next as next;
 ghost use Rattle.nob_recall.specs.Recalls as recalls;
 ghost use Rattle.nob_watch.specs.Reruns as words;
 
-use crate::dated::Dated;
 use nob_asked::{answers, is_right_seal};
 use nob_frame::Frame;
 use nob_model_traces::origins::{frame_in, frames_of};
@@ -18,6 +17,7 @@ use nob_model_watch::{WatchError, WatchFault};
 use nob_past::Past;
 use nob_recall::Recall;
 use nob_space::Space;
+use nob_told::Dated;
 use std::alloc::{AllocError, Global};
 
 /// Equal frames to those that an entry transmitted. Only memory fails it.

@@ -6,13 +6,13 @@ ghost use Rattle.nob_model_journal.specs.Runs.{WorldRun};
 ghost use Rattle.nob_model_invariant.specs.Safe.{IsSafe};
 ghost use Rattle.nob_watch.specs.Reruns as words;
 
-use crate::dated::Dated;
 use crate::making::take;
 use nob_ids::{Limits, SpaceId};
 use nob_model_watch::{WatchError, WatchFault};
 use nob_past::Past;
 use nob_recall::Recall;
 use nob_space::Space;
+use nob_told::Dated;
 use std::alloc::{AllocError, Global};
 use std::marker::Model;
 

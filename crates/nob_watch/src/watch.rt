@@ -1,18 +1,18 @@
 //! The checker that follows.
 
-ghost use Rattle.std.specs.Prelude.{◌≡◌, ◌≤◌, ◌-◌, ℕ, Some, length, reverse, replicate, slice_get, IfOk, IfErr, OnOk, OnErr};
+ghost use Rattle.std.specs.Prelude.{◌≡◌, ◌≤◌, ℕ, length, reverse, replicate, IfOk, IfErr, OnOk, OnErr};
 ghost use Rattle.nob_ids.specs.declared.limits.Limits.{Limits as LimitsOf};
 ghost use Rattle.nob_model_journal.specs.Runs.{WorldRun};
 ghost use Rattle.nob_model_invariant.specs.Safe.{IsSafe};
 ghost use Rattle.nob_watch.specs.Reruns as reruns;
-ghost use Rattle.nob_watch.specs.declared.head.Head.{Head as HeadOf};
-ghost use Rattle.nob_watch.specs.Heads as words;
+ghost use Rattle.nob_told.specs.Dues as dues;
+ghost use Rattle.nob_told.specs.Orders.{InOrder};
+ghost use Rattle.nob_watch.specs.Watches as words;
 
-use crate::dated::Dated;
-use crate::head::{Head, any_may_come, earliest, is_wanted_at, new_heads, put_end, put_told};
 use crate::rerun::Rerun;
 use nob_ids::{Limits, SpaceId};
 use nob_model_watch::{WatchError, WatchFault};
+use nob_told::{Dated, Heads};
 use std::alloc::{AllocError, Global};
 use std::marker::Model;
 
@@ -21,12 +21,11 @@ use std::marker::Model;
 /// passed, and the next entry of each space. It holds spaces, so it can't be let go: `shut` ends it.
 pub struct Watch {
     rerun: Rerun,
-    // That of space p at place p - 1.
-    heads: Vec<Head>,
+    heads: Heads,
 }
 
 impl Model for Watch {
-    ghost use Rattle.nob_watch.specs.Heads.{Watching, IsWatching};
+    ghost use Rattle.nob_watch.specs.Watches.{Watching, IsWatching};
 
     ghost Value = { Watching };
 
@@ -35,10 +34,10 @@ impl Model for Watch {
 
     ghost coded = { Prim.hlevel (codes, trees_code) };
 
-    ghost view = { λ watch. record { following = watch.rerun; heads = watch.heads.items } };
+    ghost view = { λ watch. record { following = watch.rerun; heads = watch.heads } };
 
     ghost invariant = { λ watch. IsWatching
-        (record { following = watch.rerun; heads = watch.heads.items }) };
+        (record { following = watch.rerun; heads = watch.heads }) };
 }
 
 impl Watch {
@@ -51,9 +50,9 @@ impl Watch {
         ensures following { IfOk result (λ watch. watch.following
             ≡ reruns.begun span limits.items) }
         ensures heads { IfOk result (λ watch. watch.heads
-            ≡ replicate (length limits.items) words.no_head) }
+            ≡ replicate (length limits.items) dues.no_head) }
     {
-        let heads = new_heads(alloc, limits.len())?;
+        let heads = Heads::new(alloc, limits.len())?;
         Ok(Watch {
             rerun: Rerun::new(alloc, span, limits)?,
             heads,
@@ -72,7 +71,7 @@ impl Watch {
     /// world, and safe, and each seal in them is right.
     pub fn len(&self) -> u64
         ensures count { result ≡ length self.now.following.passed }
-        ensures in_order { words.InOrder self.now.following.passed }
+        ensures in_order { InOrder self.now.following.passed }
         ensures run { (limits : ℕ → LimitsOf)
             → reruns.AreLimits self.now.following.n limits self.now.following.limits
             → WorldRun self.now.following.n limits
@@ -94,9 +93,9 @@ impl Watch {
 
     /// Whether a space has more entries, of which none was told yet. Constant time.
     pub fn wants(&self, space: SpaceId) -> bool
-        ensures { result ≡ words.wants space self.now.heads }
+        ensures { result ≡ dues.wants space self.now.heads }
     {
-        is_wanted_at(self.heads.as_slice(), space)
+        self.heads.wants(space)
     }
 
     /// Tells the next entry of its space. It is handed back where there is no such space, where the
@@ -106,16 +105,16 @@ impl Watch {
         ensures ok { OnOk result (words.IsTold self.old self.new dated) }
         ensures back { IfErr result (λ back. back ≡ dated) }
         ensures err { OnErr result (self.new ≡ self.old) }
-        ensures only { OnErr result (words.CannotTell self.old.heads dated) }
+        ensures only { OnErr result (dues.CannotTell self.old.heads dated) }
     {
-        put_told(&mut self.heads, dated)
+        self.heads.tell(dated)
     }
 
     /// Says that there are no more entries of a space.
     pub fn end(&mut self, space: SpaceId)
         ensures { self.new ≡ words.ended space self.old }
     {
-        put_end(&mut self.heads, space);
+        self.heads.end(space);
     }
 
     /// Passes the earliest of the next entries, where no space may have one as early of which nothing
@@ -126,13 +125,13 @@ impl Watch {
     pub fn go_on(&mut self) -> Result<bool, WatchError>
         ensures { words.GoesOn self.old self.new result }
     {
-        let Some(moment) = earliest(0, self.heads.as_slice()) else {
+        let Some(dated) = self.heads.due() else {
             return Ok(false);
         };
-        if any_may_come(moment.stamp, self.heads.as_slice()) {
-            return Ok(false);
-        }
-        pass_next(&mut self.rerun, &mut self.heads, moment.space)
+        let space = dated.entry.space;
+        self.rerun.pass(dated)?;
+        self.heads.pass(space);
+        Ok(true)
     }
 
     /// Ends the spaces. It takes no memory.
@@ -143,22 +142,4 @@ impl Watch {
         } = self;
         rerun.shut();
     }
-}
-
-// Passes the next entry of a space: whether there was one, and what comes of it.
-fn pass_next(rerun: &mut Rerun, heads: &mut Vec<Head>, space: SpaceId) -> Result<bool, WatchError>
-    requires here { space ≤ length heads.old.items }
-    requires own { (head : HeadOf) → slice_get heads.old.items (space - 1) ≡ Some head
-        → words.IsOfSpace space head.next }
-    requires few { length heads.old.items ≤ rerun.old.n }
-    ensures { words.HasPassedNext space rerun.old rerun.new heads.old.items heads.new.items
-        result }
-{
-    let at = space.place();
-    let Some(dated) = &heads[at].next else {
-        return Ok(false);
-    };
-    rerun.pass(dated)?;
-    heads[at].next = None;
-    Ok(true)
 }

@@ -1,13 +1,12 @@
 //! The next entry of each space.
 
-ghost use Rattle.std.specs.Prelude.{◌≡◌, ◌≤◌, ◌<◌, ◌+◌, length, replicate, IfOk, IfErr, OnOk, OnErr};
+ghost use Rattle.std.specs.Prelude.{◌≡◌, ◌≤◌, ◌<◌, ◌+◌, Some, length};
 ghost use Rattle.std.specs.List.{list_any};
-ghost use Rattle.nob_watch.specs.Heads as words;
+ghost use Rattle.nob_told.specs.Dues as words;
 
 use crate::dated::Dated;
 use nob_ids::SpaceId;
 use nob_model_traces::Moment;
-use std::alloc::{AllocError, Global};
 
 /// What is known of the entries of a space that weren't passed yet.
 #[derive(Debug, Drop)]
@@ -20,8 +19,8 @@ pub struct Head {
     pub ended: bool,
 }
 
-// Nothing was told of a space yet.
-fn no_head() -> Head
+/// Nothing was told of a space yet.
+pub(crate) fn no_head() -> Head
     ensures { result ≡ words.no_head }
 {
     Head {
@@ -31,32 +30,11 @@ fn no_head() -> Head
     }
 }
 
-/// Nothing was told yet of so many spaces. Only memory fails it.
-pub(crate) fn new_heads(alloc: Global, count: usize) -> Result<Vec<Head>, AllocError>
-    ensures { IfOk result (λ heads. heads.items ≡ replicate count words.no_head) }
-{
-    let mut heads = Vec::new(alloc);
-    while heads.len() < count {
-        heads.push(no_head())?;
-    }
-    Ok(heads)
-}
-
-// Whether a space has more entries, of which none was told.
-fn is_wanted(head: &Head) -> bool
+/// Whether a space has more entries, of which none was told.
+pub(crate) fn is_wanted(head: &Head) -> bool
     ensures { result ≡ words.is_wanted head.now }
 {
     head.next.is_none() && !head.ended
-}
-
-/// Whether one of the spaces has more entries, of which none was told. Constant time.
-pub(crate) fn is_wanted_at(heads: &[Head], space: SpaceId) -> bool
-    ensures { result ≡ words.wants space heads.now }
-{
-    match heads.get(space.place()) {
-        Some(head) => is_wanted(head),
-        None => false,
-    }
 }
 
 // Whether the next entry of a space wasn't told yet, and may have this stamp or a lower one.
@@ -100,16 +78,21 @@ fn earlier_of(one: Option<Moment>, other: Option<Moment>) -> Option<Moment>
 {
     match one {
         Some(moment) => match other {
-            Some(twin) => {
-                if twin.is_earlier(moment) {
-                    return Some(twin);
-                }
-                Some(moment)
-            }
-            None => Some(moment),
+            Some(twin) => Some(earlier(moment, twin)),
+            None => one,
         },
         None => other,
     }
+}
+
+// The same of two that are there.
+fn earlier(moment: Moment, twin: Moment) -> Moment
+    ensures { Some result ≡ words.earlier_of (Some moment) (Some twin) }
+{
+    if twin.is_earlier(moment) {
+        return twin;
+    }
+    moment
 }
 
 /// When the earliest of the next entries was made, of spaces that are counted from this place on.
@@ -124,40 +107,5 @@ pub(crate) fn earliest(place: usize, heads: &[Head]) -> Option<Moment>
             let rest = earliest(place + 1, others);
             earlier_of(moment_of(place, head), rest)
         }
-    }
-}
-
-/// The next entry of its space is told, where it can be. It takes no memory.
-pub(crate) fn put_told(heads: &mut Vec<Head>, dated: Dated) -> Result<(), Dated>
-    ensures ok { OnOk result (words.IsToldTo heads.old.items heads.new.items dated) }
-    ensures back { IfErr result (λ back. back ≡ dated) }
-    ensures err { OnErr result (heads.new.items ≡ heads.old.items) }
-    ensures only { OnErr result (words.CannotTell heads.old.items dated) }
-{
-    let at = dated.entry.space.place();
-    if at >= heads.len() {
-        return Err(dated);
-    }
-    if !is_wanted(&heads[at]) {
-        return Err(dated);
-    }
-    if dated.stamp <= heads[at].last {
-        return Err(dated);
-    }
-    heads[at] = Head {
-        last: dated.stamp,
-        next: Some(dated),
-        ended: false,
-    };
-    Ok(())
-}
-
-/// There are no more entries of a space.
-pub(crate) fn put_end(heads: &mut Vec<Head>, space: SpaceId)
-    ensures { heads.new.items ≡ words.with_end space heads.old.items }
-{
-    let at = space.place();
-    if at < heads.len() {
-        heads[at].ended = true;
     }
 }

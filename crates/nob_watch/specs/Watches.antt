@@ -1,0 +1,35 @@
+-- A run that is followed, and the next entry of each space: which is passed, and what comes of it.
+use Rattle.std.specs.Prelude.{◌≡◌, ◌≤◌, ℕ, Bool, true, false, List, length, Result, Ok, Err}
+use Rattle.nob_model_watch.specs.declared.fault.WatchError.{WatchError}
+use Rattle.nob_told.specs.declared.dated.Dated.{Dated}
+use Rattle.nob_told.specs.declared.head.Head.{Head}
+use Rattle.nob_told.specs.Dues.{with_end, with_passed, IsTold as IsToldTo, IsDue}
+use Rattle.nob_told.specs.Orders.{InOrder, AreAhead}
+use Rattle.nob_watch.specs.Reruns.{Following, Passes}
+
+-- a run that is followed, and the next entry of each space: that of space p at place p - 1
+pub record Watching : Type 0 where
+  pub following : Following
+  pub heads : List Head
+
+-- what the type of checkers that follow keeps: what was passed is in order, and no next entry is earlier
+pub record IsWatching (watching : Watching) : Type 0 where
+  pub some : 1 ≤ watching.following.n
+  pub each : length watching.heads ≡ watching.following.n
+  pub ahead : AreAhead watching.following.passed watching.heads
+  pub in_order : InOrder watching.following.passed
+
+-- the next entry of its space is told, and nothing is passed
+pub record IsTold (old new : Watching) (dated : Dated) : Type 0 where
+  pub following : new.following ≡ old.following
+  pub heads : IsToldTo old.heads new.heads dated
+
+-- space p has no more entries than those that were told
+abbrev pub ended : ℕ → Watching → Watching
+ended p watching = record { following = watching.following; heads = with_end p watching.heads }
+
+-- what comes of going on: the entry that is due is passed, or not; or none is due, and nothing has changed
+abbrev pub GoesOn : (old new : Watching) → Result Bool WatchError → Type 0
+GoesOn old new (Ok true) = (dated : Dated) × IsDue old.heads dated × Passes old.following new.following dated (Ok tt) × (new.heads ≡ with_passed dated.entry.space old.heads)
+GoesOn old new (Ok false) = ((dated : Dated) → IsDue old.heads dated → ⊥) × (new ≡ old)
+GoesOn old new (Err error) = (dated : Dated) × IsDue old.heads dated × Passes old.following new.following dated (Err error) × (new.heads ≡ old.heads)
