@@ -289,6 +289,12 @@ one_is_there heads moment head first there none =
     let same : head ≡ at.head = (let both : Some head ≡ Some at.head = sym there ∙ ap (slice_get heads) place_is ∙ at.there in cc) in
     let clash : None ≡ Some at.dated = sym none ∙ ap (λ (h : Head). h.next) same ∙ at.next in absurd cc
 
+-- a place where something stands is below the length
+within : (xs : List Head) (k : ℕ) (x : Head) → slice_get xs k ≡ Some x → k < length xs
+within [] k x is = absurd cc
+within (y ∷ ys) zero x is = omega arith
+within (y ∷ ys) (suc k) x is = let low = within ys k x is in omega (arith, low)
+
 -- its place is one of the list
 pub there_low : (heads : List Head) (moment : Moment) → earliest 1 heads ≡ Some moment → moment.space - 1 < length heads
 there_low heads moment first =
@@ -296,11 +302,13 @@ there_low heads moment first =
     let is : moment.space ≡ 1 + at.place = ap (λ (m : Moment). m.space) at.moment_is in
     let low : at.place < length heads = within heads at.place at.head at.there in
     omega (arith, is, low)
-  where
-    within : (xs : List Head) (k : ℕ) (x : Head) → slice_get xs k ≡ Some x → k < length xs
-    within [] k x is = absurd cc
-    within (y ∷ ys) zero x is = omega arith
-    within (y ∷ ys) (suc k) x is = let low = within ys k x is in omega (arith, low)
+
+-- and so is that of the one that is due
+pub due_within : (heads : List Head) (dated : Dated) → AreOfSpaces heads → IsDue heads dated → (1 ≤ dated.entry.space) × (dated.entry.space ≤ length heads)
+due_within heads dated are due =
+    let own : dated.entry.space ≡ dated.entry.space - 1 + 1 = subst (IsOfSpace (dated.entry.space - 1 + 1)) due.next (are.own (dated.entry.space - 1) due.head due.there) in
+    let low : dated.entry.space - 1 < length heads = within heads (dated.entry.space - 1) due.head due.there in
+    (omega (arith, own), omega (arith, own, low))
 
 pub none_due : (heads : List Head) (dated : Dated) → earliest 1 heads ≡ None → IsDue heads dated → ⊥
 none_due heads dated none due = let clash : None ≡ Some (dated_moment dated) = sym none ∙ due.earliest_is in absurd cc
@@ -326,9 +334,12 @@ all_ended passed p heads are = by (slice_get heads (p - 1)) refl
     by (Some head) there = ahead_set passed heads (p - 1) head (with_ended head) are there (ahead_ended passed head.next head.last head.ended (are (p - 1) head there))
 
 -- the one that is due is passed
-pub all_passed : (passed : List Dated) (heads : List Head) (dated : Dated) → AreOfSpaces heads → AreAhead passed heads → IsDue heads dated → 1 ≤ dated.entry.space → AreAhead (passed ++ dated ∷ []) (with_passed dated.entry.space heads)
-all_passed passed heads dated spaces are due low = subst (λ (o : Option Head). AreAhead (passed ++ dated ∷ []) (changed_at without_next (dated.entry.space - 1) heads o)) (sym due.there) (each_set (λ (place : ℕ) (head : Head). IsAhead (passed ++ dated ∷ []) head) heads (dated.entry.space - 1) due.head (without_next due.head) others due.there own)
+pub all_passed : (passed : List Dated) (heads : List Head) (dated : Dated) → AreOfSpaces heads → AreAhead passed heads → IsDue heads dated → AreAhead (passed ++ dated ∷ []) (with_passed dated.entry.space heads)
+all_passed passed heads dated spaces are due = subst (λ (o : Option Head). AreAhead (passed ++ dated ∷ []) (changed_at without_next (dated.entry.space - 1) heads o)) (sym due.there) (each_set (λ (place : ℕ) (head : Head). IsAhead (passed ++ dated ∷ []) head) heads (dated.entry.space - 1) due.head (without_next due.head) others due.there own)
   where
+    low : 1 ≤ dated.entry.space
+    low = (due_within heads dated spaces due).0
+
     own : IsAhead (passed ++ dated ∷ []) (without_next due.head)
     own = ahead_own passed dated due.head.last due.head.ended (subst (λ (o : Option Dated). IsAheadBy passed o due.head.last due.head.ended) due.next (are (dated.entry.space - 1) due.head due.there))
 

@@ -77,6 +77,13 @@ pub record IsTold (old new : List Head) (dated : Dated) : Type 0 where
   pub can : CanTell head dated
   pub new_is : new ≡ set old (dated.entry.space - 1) (told dated)
 
+-- it can be told, and what is known of its space stands at this place
+pub record CanTellAt (heads : List Head) (at : ℕ) (dated : Dated) : Type 0 where
+  pub at_is : at ≡ dated.entry.space - 1
+  pub head : Head
+  pub there : slice_get heads (dated.entry.space - 1) ≡ Some head
+  pub can : CanTell head dated
+
 -- it can't be told
 abbrev pub CannotTell : List Head → Dated → Type 0
 CannotTell heads dated = (head : Head) → slice_get heads (dated.entry.space - 1) ≡ Some head → CanTell head dated → ⊥

@@ -1,7 +1,8 @@
 //! The next entry of each space.
 
-ghost use Rattle.std.specs.Prelude.{◌≡◌, ◌≤◌, ◌<◌, ◌+◌, Some, length};
+ghost use Rattle.std.specs.Prelude.{◌≡◌, ◌≤◌, ◌<◌, ◌+◌, true, false, length};
 ghost use Rattle.std.specs.List.{list_any};
+ghost use Rattle.nob_model_traces.specs.Merged.{is_earlier};
 ghost use Rattle.nob_told.specs.Dues as words;
 
 use crate::dated::Dated;
@@ -72,27 +73,30 @@ fn moment_of(place: usize, head: &Head) -> Option<Moment>
     })
 }
 
+// Whether a moment is earlier than another, by what they are.
+fn is_sooner(stamp: u64, space: SpaceId, other_stamp: u64, other_space: SpaceId) -> bool
+    ensures { result ≡ is_earlier (record { stamp = stamp; space = space })
+        (record { stamp = other_stamp; space = other_space }) }
+{
+    stamp < other_stamp || (stamp == other_stamp && space.get() < other_space.get())
+}
+
 // The earlier of two.
 fn earlier_of(one: Option<Moment>, other: Option<Moment>) -> Option<Moment>
     ensures { result ≡ words.earlier_of one other }
 {
     match one {
         Some(moment) => match other {
-            Some(twin) => Some(earlier(moment, twin)),
-            None => one,
+            Some(twin) => {
+                if is_sooner(twin.stamp, twin.space, moment.stamp, moment.space) {
+                    return Some(twin);
+                }
+                Some(moment)
+            }
+            None => Some(moment),
         },
         None => other,
     }
-}
-
-// The same of two that are there.
-fn earlier(moment: Moment, twin: Moment) -> Moment
-    ensures { Some result ≡ words.earlier_of (Some moment) (Some twin) }
-{
-    if twin.is_earlier(moment) {
-        return twin;
-    }
-    moment
 }
 
 /// When the earliest of the next entries was made, of spaces that are counted from this place on.
@@ -107,5 +111,25 @@ pub(crate) fn earliest(place: usize, heads: &[Head]) -> Option<Moment>
             let rest = earliest(place + 1, others);
             earlier_of(moment_of(place, head), rest)
         }
+    }
+}
+
+/// Whether an entry can be told of a space of which this is known.
+pub(crate) fn can_tell(head: &Head, dated: &Dated) -> bool
+    ensures yes { result ≡ true → words.CanTell head.now dated.now }
+    ensures no { result ≡ false → words.CanTell head.now dated.now → ⊥ }
+{
+    is_wanted(head) && head.last < dated.stamp
+}
+
+/// What is known of a space once an entry was told.
+pub(crate) fn told(dated: Dated) -> Head
+    ensures { result ≡ words.told dated }
+{
+    let last = dated.stamp;
+    Head {
+        next: Some(dated),
+        last,
+        ended: false,
     }
 }

@@ -1,11 +1,11 @@
 //! The next entries of all spaces.
 
-ghost use Rattle.std.specs.Prelude.{◌≡◌, ◌≤◌, ◌-◌, length, replicate, slice_get, Some, None, IfOk, IfErr, IfSome, OnOk, OnErr};
+ghost use Rattle.std.specs.Prelude.{◌≡◌, ◌≤◌, replicate, None, IfOk, IfErr, IfSome, OnOk, OnErr, MatchOption};
 ghost use Rattle.nob_told.specs.declared.dated.Dated.{Dated as DatedOf};
 ghost use Rattle.nob_told.specs.Dues as words;
 
 use crate::dated::Dated;
-use crate::head::{Head, any_may_come, earliest, is_wanted, no_head};
+use crate::head::{Head, any_may_come, can_tell, earliest, is_wanted, no_head, told};
 use nob_ids::SpaceId;
 use std::alloc::{AllocError, Global};
 use std::marker::Model;
@@ -61,8 +61,9 @@ impl Heads {
     /// The entry that is due: the earliest of the next ones, where no space may have one as early of
     /// which nothing was told. Linear in the spaces.
     pub fn due(&self) -> Option<&Dated>
-        ensures some { IfSome result (λ dated. words.IsDue self.now dated.now) }
-        ensures none { result ≡ None → (dated : DatedOf) → words.IsDue self.now dated → ⊥ }
+        ensures due { MatchOption result ((dated : DatedOf) → words.IsDue self.now dated → ⊥)
+            (λ dated. words.IsDue self.now dated.now) }
+        ensures spaces { words.AreOfSpaces self.now }
     {
         due_of(self.heads.as_slice())
     }
@@ -97,8 +98,8 @@ impl Heads {
 // The entry that is due.
 fn due_of(heads: &[Head]) -> Option<&Dated>
     requires { words.AreOfSpaces heads.now }
-    ensures some { IfSome result (λ dated. words.IsDue heads.now dated.now) }
-    ensures none { result ≡ None → (dated : DatedOf) → words.IsDue heads.now dated → ⊥ }
+    ensures { MatchOption result ((dated : DatedOf) → words.IsDue heads.now dated → ⊥)
+        (λ dated. words.IsDue heads.now dated.now) }
 {
     let Some(moment) = earliest(0, heads) else {
         return None;
@@ -106,7 +107,27 @@ fn due_of(heads: &[Head]) -> Option<&Dated>
     if any_may_come(moment.stamp, heads) {
         return None;
     }
-    heads[moment.space.place()].next.as_ref()
+    match &heads[moment.space.place()].next {
+        Some(dated) => Some(dated),
+        None => None,
+    }
+}
+
+// The place at which an entry can be told.
+fn place_for(heads: &[Head], dated: &Dated) -> Option<usize>
+    ensures some { IfSome result (λ at. words.CanTellAt heads.now at dated.now) }
+    ensures none { result ≡ None → words.CannotTell heads.now dated.now }
+{
+    let at = dated.entry.space.place();
+    match heads.get(at) {
+        Some(head) => {
+            if can_tell(head, dated) {
+                return Some(at);
+            }
+            None
+        }
+        None => None,
+    }
 }
 
 // The next entry of its space is told, where it can be.
@@ -116,23 +137,13 @@ fn put_told(heads: &mut Vec<Head>, dated: Dated) -> Result<(), Dated>
     ensures err { OnErr result (heads.new.items ≡ heads.old.items) }
     ensures only { OnErr result (words.CannotTell heads.old.items dated) }
 {
-    let at = dated.entry.space.place();
-    if at >= heads.len() {
-        return Err(dated);
+    match place_for(heads.as_slice(), &dated) {
+        Some(at) => {
+            heads[at] = told(dated);
+            Ok(())
+        }
+        None => Err(dated),
     }
-    if !is_wanted(&heads[at]) {
-        return Err(dated);
-    }
-    let last = dated.stamp;
-    if last <= heads[at].last {
-        return Err(dated);
-    }
-    heads[at] = Head {
-        next: Some(dated),
-        last,
-        ended: false,
-    };
-    Ok(())
 }
 
 // There are no more entries of a space.

@@ -1,1 +1,2 @@
 pub mod Reruns
+pub mod Watches

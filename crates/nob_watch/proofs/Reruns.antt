@@ -1,11 +1,11 @@
 -- What one entry more leaves of a run that is followed.
-use Rattle.std.proofs.Common.{◌≡◌, ◌≢◌, ◌⊎◌, ◌↔◌, ℕ, ◌+◌, ◌-◌, ◌≤◌, ◌<◌, ◌^◌, Bool, true, false, cond, ◌==◌, List, [], ◌∷◌, ◌++◌, length, map, filter, reverse, get_or, slice_get, Option, Some, None, inl, inr, refl, sym, ap, subst, ◌∙◌, arith}
+use Rattle.std.proofs.Common.{◌≡◌, ◌≢◌, ◌⊎◌, ◌↔◌, ℕ, ◌+◌, ◌-◌, ◌≤◌, ◌<◌, ◌^◌, Bool, true, false, cond, ◌==◌, List, [], ◌∷◌, ◌++◌, length, map, filter, reverse, replicate, get_or, slice_get, Option, Some, None, inl, inr, refl, sym, ap, subst, ◌∙◌, arith}
 use Prim.Native.Nat.{zero, suc}
 use Rattle.std.specs.Prelude.{Result, Ok, Err, IfOk, OnErr}
 use Rattle.std.specs.List.{AllByRecursion, Contains}
 use Rattle.std.proofs.lemmas.Option.{slice_get_read}
 use lib.ListN.{set}
-use Rattle.std.proofs.lemmas.List.{length-set, reverse-append, map-append}
+use Rattle.std.proofs.lemmas.List.{length-set, length-replicate, reverse-append}
 use Rattle.std.proofs.lemmas.Cmp.{nat_eq_equiv}
 use Rattle.std.proofs.lemmas.Bool.Decides.{nat_tests, Decides-eqb}
 use Rattle.nob_ids.specs.declared.limits.Limits.{Limits}
@@ -22,7 +22,7 @@ use Rattle.nob_model_invariant.specs.Typed.{IsOfTypes}
 use Rattle.nob_model_watch.specs.Next.{CanPass, place_of, stray_fault}
 use Rattle.nob_model_watch.specs.declared.fault.WatchFault.{WatchFault}
 use Rattle.nob_model_watch.specs.declared.fault.WatchFault.TheVariants as faults
-use Rattle.nob_recall.specs.Recalls.{Recalled}
+use Rattle.nob_recall.specs.Recalls.{Recalled, Recalls}
 use Rattle.nob_model_watch.specs.Remembering.{ArrivesRemembered, memory}
 use Rattle.nob_model_watch.proofs.Forgetting.{remembered_were_transmitted}
 use Rattle.nob_space.specs.Spaces.{Owner, StandsFor, SameSpace, entry_of}
@@ -30,7 +30,7 @@ use Rattle.nob_told.specs.declared.dated.Dated.{Dated}
 use Rattle.nob_told.proofs.Dues.{placed, set_other}
 use Rattle.nob_asked.specs.Sealing.{is_whole_seal}
 use Rattle.nob_told.specs.declared.dated.SegmentSeal.{SegmentSeal}
-use Rattle.nob_watch.specs.Reruns.{journal_of, is_sealed, AreSealed, AreLimits, IsMember, AreMembers, ArePlaces, IsRun, IsAnswered, IsAsked, IsSealFault, IsFaultBy, IsOriginFault, IsJudged}
+use Rattle.nob_watch.specs.Reruns.{journal_of, is_sealed, AreSealed, AreLimits, IsMember, AreMembers, ArePlaces, IsRun, IsAnswered, IsAsked, IsSealFault, IsFaultBy, IsOriginFault, IsJudged, Following, begun, with_dated, with_fault, CanPassBy, IsLive, IsSound, IsRerun}
 
 -- ---- journals
 
@@ -302,3 +302,71 @@ safe_of n (first ∷ rest) J each some is = safe_law n limits J (is.run limits a
         got [] j x less = absurd (omega (arith, less))
         got (y ∷ ys) zero x less = refl
         got (y ∷ ys) (suc j) x less = got ys j x (omega (arith, less))
+
+-- ---- what is kept
+
+pub placed_push : {X : Type 0} (holds : ℕ → X → Type 0) (xs : List X) (x : X) → ((i : ℕ) (y : X) → slice_get xs i ≡ Some y → holds i y) → holds (length xs) x → (i : ℕ) (y : X) → slice_get (xs ++ x ∷ []) i ≡ Some y → holds i y
+placed_push holds [] x all last zero y got = subst (holds zero) (let same : x ≡ y = cc in same) last
+placed_push holds [] x all last (suc i) y got = absurd cc
+placed_push holds (z ∷ xs) x all last zero y got = all zero y got
+placed_push holds (z ∷ xs) x all last (suc i) y got = placed_push (λ j. holds (suc j)) xs x (λ j w there. all (suc j) w there) last i y got
+
+-- the next place of each space is the first one
+pub places_none : (n : ℕ) → ArePlaces n [] (replicate n 1)
+places_none n = record { each = length-replicate n 1; next = λ p first last. at n (p - 1) (omega (arith, first, last)) }
+  where
+    at : (n k : ℕ) → k < n → slice_get (replicate n 1) k ≡ Some (0 + 1)
+    at zero k less = absurd (omega (arith, less))
+    at (suc n) zero less = refl
+    at (suc n) (suc k) less = at n k (omega (arith, less))
+
+-- nothing was passed yet
+pub rerun_none : (span : ℕ) (list : List Limits) (spaces : List Owner) (places : List ℕ) (recall : Recalled) → 1 ≤ length list → length list ≤ 32 → AreMembers (length list) list [] spaces → places ≡ replicate (length list) 1 → Recalls [] recall → IsRerun (begun span list) spaces places recall
+rerun_none span list spaces places recall some few members ones recalls = record {
+  some = some;
+  few = few;
+  each = refl;
+  run = record { run = λ limits are. tt; typed = tt };
+  sealed = tt;
+  sound = record { members = members; places = subst (ArePlaces (length list) []) (sym ones) (places_none (length list)); recalls = recalls };
+}
+
+-- one entry more was passed
+pub rerun_more : (old : Following) (dated : Dated) (spaces spaces' : List Owner) (places places' : List ℕ) (recall recall' : Recalled) → IsRerun old spaces places recall → old.fault ≡ None
+    → IsLive old.n old.limits (dated.entry ∷ journal_of old.passed) spaces' places' recall' → IsRun old.n old.limits (dated.entry ∷ journal_of old.passed) → CanPassBy old.n old.limits old.span dated (journal_of old.passed)
+    → IsRerun (with_dated dated old) spaces' places' recall'
+rerun_more old dated spaces spaces' places places' recall recall' is none live run can = record {
+  some = is.some;
+  few = is.few;
+  each = is.each;
+  run = subst (IsRun old.n old.limits) (sym (journal_more old.passed dated)) run;
+  sealed = sealed_more old.n old.passed dated is.sealed can.sealed;
+  sound = subst (λ (found : Option WatchFault). IsSound found old.n old.limits (journal_of (old.passed ++ dated ∷ [])) spaces' places' recall') (sym none)
+      (subst (λ (J : List Entry). IsLive old.n old.limits J spaces' places' recall') (sym (journal_more old.passed dated)) live);
+}
+
+-- it stops
+pub rerun_stopped : (old : Following) (fault : WatchFault) (spaces spaces' : List Owner) (places places' : List ℕ) (recall recall' : Recalled) → IsRerun old spaces places recall → IsRerun (with_fault fault old) spaces' places' recall'
+rerun_stopped old fault spaces spaces' places places' recall recall' is = record {
+  some = is.some;
+  few = is.few;
+  each = is.each;
+  run = is.run;
+  sealed = is.sealed;
+  sound = tt;
+}
+
+-- memory was wanted
+pub rerun_same : (old : Following) (spaces spaces' : List Owner) (places places' : List ℕ) (recall recall' : Recalled) → IsRerun old spaces places recall → old.fault ≡ None → IsLive old.n old.limits (journal_of old.passed) spaces' places' recall' → IsRerun old spaces' places' recall'
+rerun_same old spaces spaces' places places' recall recall' is none live = record {
+  some = is.some;
+  few = is.few;
+  each = is.each;
+  run = is.run;
+  sealed = is.sealed;
+  sound = subst (λ (found : Option WatchFault). IsSound found old.n old.limits (journal_of old.passed) spaces' places' recall') (sym none) live;
+}
+
+-- where nothing is wrong yet all that is kept stands for what was passed
+pub live_of : (old : Following) (spaces : List Owner) (places : List ℕ) (recall : Recalled) → IsRerun old spaces places recall → old.fault ≡ None → IsLive old.n old.limits (journal_of old.passed) spaces places recall
+live_of old spaces places recall is none = subst (λ (found : Option WatchFault). IsSound found old.n old.limits (journal_of old.passed) spaces places recall) none is.sound

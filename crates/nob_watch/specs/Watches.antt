@@ -28,8 +28,12 @@ pub record IsTold (old new : Watching) (dated : Dated) : Type 0 where
 abbrev pub ended : ℕ → Watching → Watching
 ended p watching = record { following = watching.following; heads = with_end p watching.heads }
 
--- what comes of going on: the entry that is due is passed, or not; or none is due, and nothing has changed
+-- what comes of going on, to the run and to the next entries: the entry that is due is passed, or not; or none is due, and nothing has changed
+abbrev pub GoesOnBy : (old new : Following) → (heads after : List Head) → Result Bool WatchError → Type 0
+GoesOnBy old new heads after (Ok true) = (dated : Dated) × IsDue heads dated × Passes old new dated (Ok tt) × (after ≡ with_passed dated.entry.space heads)
+GoesOnBy old new heads after (Ok false) = ((dated : Dated) → IsDue heads dated → ⊥) × (new ≡ old) × (after ≡ heads)
+GoesOnBy old new heads after (Err error) = (dated : Dated) × IsDue heads dated × Passes old new dated (Err error) × (after ≡ heads)
+
+-- what comes of going on
 abbrev pub GoesOn : (old new : Watching) → Result Bool WatchError → Type 0
-GoesOn old new (Ok true) = (dated : Dated) × IsDue old.heads dated × Passes old.following new.following dated (Ok tt) × (new.heads ≡ with_passed dated.entry.space old.heads)
-GoesOn old new (Ok false) = ((dated : Dated) → IsDue old.heads dated → ⊥) × (new ≡ old)
-GoesOn old new (Err error) = (dated : Dated) × IsDue old.heads dated × Passes old.following new.following dated (Err error) × (new.heads ≡ old.heads)
+GoesOn old new result = GoesOnBy old.following new.following old.heads new.heads result

@@ -175,7 +175,8 @@ fn open_all(alloc: Global, n: u16, limits: &[Limits]) -> Result<Vec<Space>, Allo
         let Some(id) = SpaceId::new(p) else {
             unreachable!();
         };
-        let space = match Space::new(alloc, id, n, limits[id.place()]) {
+        let own = limits[id.place()];
+        let space = match Space::new(alloc, id, n, own) {
             Ok(space) => space,
             Err(error) => {
                 shut_all(spaces);

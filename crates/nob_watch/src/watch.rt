@@ -125,13 +125,7 @@ impl Watch {
     pub fn go_on(&mut self) -> Result<bool, WatchError>
         ensures { words.GoesOn self.old self.new result }
     {
-        let Some(dated) = self.heads.due() else {
-            return Ok(false);
-        };
-        let space = dated.entry.space;
-        self.rerun.pass(dated)?;
-        self.heads.pass(space);
-        Ok(true)
+        pass_due(&mut self.rerun, &mut self.heads)
     }
 
     /// Ends the spaces. It takes no memory.
@@ -142,4 +136,19 @@ impl Watch {
         } = self;
         rerun.shut();
     }
+}
+
+// Passes the entry that is due: whether one was, and what comes of it.
+fn pass_due(rerun: &mut Rerun, heads: &mut Heads) -> Result<bool, WatchError>
+    requires few { length heads.old ≤ rerun.old.n }
+    ensures goes_on { words.GoesOnBy rerun.old rerun.new heads.old heads.new result }
+    ensures spaces { dues.AreOfSpaces heads.old }
+{
+    let Some(dated) = heads.due() else {
+        return Ok(false);
+    };
+    let space = dated.entry.space;
+    rerun.pass(dated)?;
+    heads.pass(space);
+    Ok(true)
 }
