@@ -328,7 +328,7 @@ rerun_none span list spaces places recall some few members ones recalls = record
   each = refl;
   run = record { run = λ limits are. tt; typed = tt };
   sealed = tt;
-  sound = record { members = members; places = subst (ArePlaces (length list) []) (sym ones) (places_none (length list)); recalls = recalls };
+  sound = record { members = members; next = subst (ArePlaces (length list) []) (sym ones) (places_none (length list)); recalls = recalls };
 }
 
 -- one entry more was passed

@@ -57,7 +57,7 @@ pub record ArePlaces (n : ℕ) (J : List Entry) (places : List ℕ) : Type 0 whe
 -- all that is kept stands for a journal
 pub record IsLive (n : ℕ) (list : List Limits) (J : List Entry) (spaces : List Owner) (places : List ℕ) (recall : Recalled) : Type 0 where
   pub members : AreMembers n list J spaces
-  pub places : ArePlaces n J places
+  pub next : ArePlaces n J places
   pub recalls : Recalls J recall
 
 -- a run of a world of n spaces that is followed: the limits of each, how many frames are noted between two turns, what was passed, the first first, and what is wrong, if something is
@@ -117,6 +117,11 @@ HasPassed old new dated (Err OutOfMemory) = new ≡ old
 abbrev pub PassesAfter : Option WatchFault → (old new : Following) → Dated → Result Unit WatchError → Type 0
 PassesAfter None old new dated result = HasPassed old new dated result
 PassesAfter (Some fault) old new dated result = (result ≡ Err (Fault fault)) × (new ≡ old)
+
+-- what is said of a fault that was found before
+abbrev pub stop_of : Option WatchFault → Result Unit WatchError
+stop_of None = Ok tt
+stop_of (Some fault) = Err (Fault fault)
 
 -- what comes of the next entry
 abbrev pub Passes : (old new : Following) → Dated → Result Unit WatchError → Type 0

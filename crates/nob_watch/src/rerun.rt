@@ -138,13 +138,11 @@ impl Rerun {
             dated,
         );
         match told {
-            Ok(()) => Ok(()),
-            Err(WatchError::Fault(fault)) => {
-                self.fault = Some(fault);
-                Err(WatchError::Fault(fault))
-            }
-            Err(WatchError::OutOfMemory) => Err(WatchError::OutOfMemory),
+            Ok(()) => return Ok(()),
+            Err(WatchError::Fault(fault)) => self.fault = Some(fault),
+            Err(WatchError::OutOfMemory) => return Err(WatchError::OutOfMemory),
         }
+        stop_of(self.fault)
     }
 
     /// Ends the spaces. It takes no memory.
@@ -160,6 +158,16 @@ impl Rerun {
             fault: _,
         } = self;
         shut_all(spaces);
+    }
+}
+
+// What is said of a fault that was found before.
+fn stop_of(found: Option<WatchFault>) -> Result<(), WatchError>
+    ensures { result ≡ words.stop_of found }
+{
+    match found {
+        Some(fault) => Err(WatchError::Fault(fault)),
+        None => Ok(()),
     }
 }
 

@@ -8,7 +8,7 @@ abbrev pub invariant-loop-p : goal.invariant-loop-p
 invariant-loop-p l = record {
   count : length l.spaces.items + 1 ≡ l.p;
   few : l.p ≤ l.n + 1;
-  stand : (place : ℕ) (space : Owner) → slice_get l.spaces.items place ≡ Some space → IsMember l.n l.limits.now [] (place + 1) space;
+  stand : (place : ℕ) (space : Owner) → slice_get l.spaces.items place ≡ Some space → IsMember l.n l.limits [] (place + 1) space;
 }
 
 abbrev pub decreases-loop-p : goal.decreases-loop-p
