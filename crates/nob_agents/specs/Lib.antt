@@ -2,3 +2,4 @@ pub mod Taking
 pub mod Ways
 pub mod Sending
 pub mod Pauses
+pub mod Probing

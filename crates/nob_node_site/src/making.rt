@@ -10,7 +10,7 @@ ghost use Rattle.nob_dispatch_lanes.specs.Lanes.{all_given, all_got};
 use crate::config::{Config, Ends};
 use crate::crew::Crew;
 use crate::site::Site;
-use nob_agents::{Carer, Sender, Taker, Way};
+use nob_agents::{Carer, Prober, Sender, Taker, Way};
 use nob_dispatch_lanes::{LanePut, LaneTake, lane};
 use nob_dispatch_objects::{Agent, Object};
 use nob_ids::SpaceId;
@@ -66,12 +66,25 @@ fn crew_of<B: Object>(
     let ways = ways_of(alloc, keeper, ends, &mut inboxes)?;
     let sender = Sender::new(keeper.seat(), ways, config.pause, config.tick_every);
     let (desk, hands) = pool_of(alloc, keeper, config.workers)?;
-    let crew = Crew { hands, seats };
+    let prober = prober_of(alloc, keeper, config.tick_every);
+    let crew = Crew {
+        hands,
+        prober,
+        seats,
+    };
     Some((Outbox::new(alloc, sender), inboxes, desk, crew))
 }
 
-// The seats of the Sender, the Carer, the desk and the application, and of 16 workers.
-const OTHER_SEATS: usize = 20;
+// The seats of the Sender, the Carer, the desk, the application and what probes, and of 16 workers.
+const OTHER_SEATS: usize = 21;
+
+// What probes, where the sessions' time ticks after so many pauses.
+fn prober_of(alloc: Global, keeper: &Keeper, tick_every: u32) -> Option<Prober> {
+    if tick_every == 0 {
+        return None;
+    }
+    Some(Prober::new(alloc, keeper.seat(), tick_every))
+}
 
 // A desk with the node's agent, and so many hands.
 fn pool_of<B: Object>(
