@@ -59,6 +59,8 @@ struct Quiet {
 #[derive(Drop)]
 pub struct Prober {
     seat: Seat,
+    // How many spaces there are.
+    spaces: usize,
     // After so many looks that found the same the first probe is made.
     patience: u32,
     // At place p - 1: of the session with space p.
@@ -91,15 +93,16 @@ impl Model for Prober {
 }
 
 impl Prober {
-    /// The agent of a seat, which probes a session first after so many of its turns in which nothing
-    /// happened there, counted by 32, and after twice as many each time the probe found that too. The
-    /// caller's condition: the seat is unused.
-    pub fn new(alloc: Global, seat: Seat, patience: u32) -> Prober
+    /// The agent of a seat, one of so many spaces, which looks at one session a turn. It probes a session
+    /// first after so many looks in which nothing happened there, and after twice as many each time the
+    /// probe found that too. The caller's condition: the seat is unused.
+    pub fn new(alloc: Global, seat: Seat, spaces: u16, patience: u32) -> Prober
         requires seat { seat ≡ [] }
         ensures { result ≡ record { receipts = []; untaken = [] } }
     {
         Prober {
             seat,
+            spaces: usize::from(spaces).min(32),
             patience,
             quiet: [Quiet {
                 tally: None,
@@ -111,10 +114,15 @@ impl Prober {
         }
     }
 
-    /// One turn, which looks at the session with one space: the reply to its probe is taken where there may be one, or a probe is made
-    /// where it is time. It never waits. After an error of the keeper a later turn tries again.
+    /// One turn, which looks at the session with one space: the reply to its probe is taken where there
+    /// may be one, or a probe is made where it is time. It never waits. After an error of the keeper a
+    /// later turn tries again.
     pub fn turn<R: Wait, C: Tallies>(&mut self, rt: &R, keeper: &C) -> Result<Turn, KeeperError> {
-        self.place = if self.place < 31 { self.place + 1 } else { 0 };
+        self.place = if self.place < 31 && self.place + 1 < self.spaces {
+            self.place + 1
+        } else {
+            0
+        };
         let Some(peer) = SpaceId::new(self.place as u16 + 1) else {
             return Ok(Turn::Idle);
         };

@@ -66,7 +66,7 @@ fn crew_of<B: Object>(
     let ways = ways_of(alloc, keeper, ends, &mut inboxes)?;
     let sender = Sender::new(keeper.seat(), ways, config.pause, config.tick_every);
     let (desk, hands) = pool_of(alloc, keeper, config.workers)?;
-    let prober = prober_of(alloc, keeper, config.tick_every);
+    let prober = prober_of(alloc, keeper, config);
     let crew = Crew {
         hands,
         prober,
@@ -78,12 +78,15 @@ fn crew_of<B: Object>(
 // The seats of the Sender, the Carer, the desk, the application and what probes, and of 16 workers.
 const OTHER_SEATS: usize = 21;
 
-// What probes, where the sessions' time ticks after so many pauses.
-fn prober_of(alloc: Global, keeper: &Keeper, tick_every: u32) -> Option<Prober> {
-    if tick_every == 0 {
+// What probes, where the sessions' time ticks: first after some four times as long as a tick takes.
+// While nothing is out a turn takes as long as a hundred of the sender's.
+fn prober_of(alloc: Global, keeper: &Keeper, config: &Config) -> Option<Prober> {
+    if config.tick_every == 0 {
         return None;
     }
-    Some(Prober::new(alloc, keeper.seat(), tick_every))
+    let turns = config.tick_every.saturating_mul(config.pause);
+    let patience = turns / (25 * u32::from(config.n)) + 1;
+    Some(Prober::new(alloc, keeper.seat(), config.n, patience))
 }
 
 // A desk with the node's agent, and so many hands.
