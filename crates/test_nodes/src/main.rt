@@ -18,7 +18,7 @@ mod verdict;
 use crate::lasting::play_lasting;
 use crate::player::Part;
 use crate::reopening::play_reopening;
-use crate::running::{play, play_alone, play_cut};
+use crate::running::{play, play_alone, play_closing, play_cut};
 use crate::saying::{say, say_lasting, say_reopening, say_unbinding};
 use crate::unbinding::play_unbinding;
 use std::alloc::Global;
@@ -60,6 +60,12 @@ fn run<R: Threads + Wait + Sync + Print>(rt: &R, alloc: Global) -> io::Result<()
             "a call whose links are let go while its method is held up",
             1,
         )],
+    )?;
+    let closing = play_closing(rt, alloc);
+    say(
+        rt,
+        &closing,
+        &[("a call whose session is closed by a Close that is lost", 1)],
     )?;
     say_lasting(rt, play_lasting(rt, alloc))?;
     say_reopening(rt, play_reopening(rt, alloc))?;

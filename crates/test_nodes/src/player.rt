@@ -17,8 +17,12 @@ pub(crate) enum Part {
     Owns,
     /// Has objects for the others, and leaves while a method of one is held up.
     OwnsAndLeaves,
+    /// Has objects for the other, and closes the session while a method of one is held up.
+    OwnsAndCloses,
     /// Calls an object whose method is held up.
     CallsHeld,
+    /// Calls an object whose method is held up until the call has ended.
+    CallsClosed,
     /// Calls another object meanwhile, and then has the method go on.
     CallsOther,
     /// Has the method go on once the application that has the objects has left.
@@ -80,12 +84,19 @@ impl<'m> Player<'m> {
         let caller = offer(rt, node, refusals, b"caller", Thing::Caller);
         let _ = company.meet(rt);
         let _ = company.meet(rt);
-        if self.part == Part::OwnsAndLeaves {
-            self.shared.wait_held(rt);
-            self.said = running_at(rt, node);
-            self.shared.note_left();
-        } else {
-            let _ = company.meet(rt);
+        match self.part {
+            Part::OwnsAndLeaves => {
+                self.shared.wait_held(rt);
+                self.said = running_at(rt, node);
+                self.shared.note_left();
+            }
+            Part::OwnsAndCloses => {
+                self.shared.wait_held(rt);
+                self.close(rt, node);
+            }
+            _ => {
+                let _ = company.meet(rt);
+            }
         }
         self.give_back(rt, node, one);
         self.give_back(rt, node, other);
@@ -101,6 +112,13 @@ impl<'m> Player<'m> {
         self.said = self.said_by(rt, node, &hold, Value::Unit);
         self.shared.end_holding();
         self.give_back(rt, node, hold);
+    }
+
+    // Closes the session with the second space.
+    fn close<R: Wait>(&mut self, rt: &R, node: &mut Node<Thing>) {
+        if let Some(second) = SpaceId::new(2) {
+            let _ = self.refusals.answered(node.close(rt, second));
+        }
     }
 
     // Calls another object meanwhile, or waits for the owner to leave; then the method goes on.
@@ -165,7 +183,9 @@ impl<'m> nob_nodes::Player<Thing> for Player<'m> {
         match self.part {
             Part::Owns => self.own(rt, node, company),
             Part::OwnsAndLeaves => self.own(rt, node, company),
+            Part::OwnsAndCloses => self.own(rt, node, company),
             Part::CallsHeld => self.call_held(rt, node, company),
+            Part::CallsClosed => self.call_held(rt, node, company),
             Part::CallsOther => self.let_go_on(rt, node, company),
             Part::LetsGoOn => self.let_go_on(rt, node, company),
             Part::CallsBack => self.call_back(rt, node, company),
