@@ -9,7 +9,7 @@ use Rattle.std.proofs.lemmas.Bool.Decides.{nat_tests, Decides-eqb}
 use Rattle.nob_model_traces.specs.declared.moment.Moment.{Moment}
 use Rattle.nob_model_traces.specs.Merged.{is_earlier}
 use Rattle.nob_told.specs.declared.dated.Dated.{Dated}
-use Rattle.nob_told.specs.declared.head.Head.{Head}
+use Rattle.nob_told.specs.declared.head.Upcoming.{Upcoming}
 use Rattle.nob_told.specs.Dues.{moment_in, moment_of, earlier_of, earliest, is_wanted, may_come, dated_moment, IsOfSpace, AreOfSpaces, no_head, told, with_ended, without_next, changed_at, with_end, with_passed, IsDue}
 use Rattle.nob_told.specs.Orders.{InOrder, IsAheadBy, IsAhead, AreAhead}
 
@@ -60,12 +60,12 @@ rest_kept (Some one) (Some other) own is = by (is_earlier other one) refl
     by true its = is
     by false its = no_earlier one other own its is
 
-pub least : (s : ℕ) (heads : List Head) (k : ℕ) (head : Head) (dated : Dated) → slice_get heads k ≡ Some head → head.next ≡ Some dated → IsNoEarlier (earliest s heads) (record { stamp = dated.stamp; space = s + k })
+pub least : (s : ℕ) (heads : List Upcoming) (k : ℕ) (head : Upcoming) (dated : Dated) → slice_get heads k ≡ Some head → head.next ≡ Some dated → IsNoEarlier (earliest s heads) (record { stamp = dated.stamp; space = s + k })
 least s [] k head dated there next = absurd cc
 least s (first ∷ heads) zero head dated there next =
     let same : first ≡ head = cc in
     let nought : s ≡ s + 0 = omega arith in
-    let is : moment_of s first ≡ Some (record { stamp = dated.stamp; space = s + 0 }) = ap (moment_in s) (ap (λ (h : Head). h.next) same ∙ next) ∙ ap (λ (p : ℕ). Some (record { stamp = dated.stamp; space = p })) nought in
+    let is : moment_of s first ≡ Some (record { stamp = dated.stamp; space = s + 0 }) = ap (moment_in s) (ap (λ (h : Upcoming). h.next) same ∙ next) ∙ ap (λ (p : ℕ). Some (record { stamp = dated.stamp; space = p })) nought in
     subst (λ (o : Option Moment). IsNoEarlier (earlier_of o (earliest (s + 1) heads)) (record { stamp = dated.stamp; space = s + 0 })) (sym is) (first_kept (record { stamp = dated.stamp; space = s + 0 }) (earliest (s + 1) heads))
 least s (first ∷ heads) (suc k) head dated there next =
     let further : s + 1 + k ≡ s + suc k = omega arith in
@@ -73,23 +73,23 @@ least s (first ∷ heads) (suc k) head dated there next =
     (subst (λ (p : ℕ). IsNoEarlier (earliest (s + 1) heads) (record { stamp = dated.stamp; space = p })) further (least (s + 1) heads k head dated there next))
 
 -- where it was found
-pub record FoundAt (s : ℕ) (heads : List Head) (moment : Moment) : Type 0 where
+pub record FoundAt (s : ℕ) (heads : List Upcoming) (moment : Moment) : Type 0 where
   pub place : ℕ
-  pub head : Head
+  pub head : Upcoming
   pub dated : Dated
   pub there : slice_get heads place ≡ Some head
   pub next : head.next ≡ Some dated
   pub moment_is : moment ≡ record { stamp = dated.stamp; space = s + place }
 
-abbrev pub IsFoundIn : ℕ → List Head → Option Moment → Type 0
+abbrev pub IsFoundIn : ℕ → List Upcoming → Option Moment → Type 0
 IsFoundIn s heads None = Unit {0}
 IsFoundIn s heads (Some moment) = FoundAt s heads moment
 
-found_first : (s : ℕ) (head : Head) (heads : List Head) (next : Option Dated) → head.next ≡ next → IsFoundIn s (head ∷ heads) (moment_in s next)
+found_first : (s : ℕ) (head : Upcoming) (heads : List Upcoming) (next : Option Dated) → head.next ≡ next → IsFoundIn s (head ∷ heads) (moment_in s next)
 found_first s head heads None is = tt
 found_first s head heads (Some dated) is = record { place = 0; head = head; dated = dated; there = refl; next = is; moment_is = ap (λ (p : ℕ). record { stamp = dated.stamp; space = p }) (let nought : s ≡ s + 0 = omega arith in nought) }
 
-found_rest : (s : ℕ) (head : Head) (heads : List Head) (found : Option Moment) → IsFoundIn (s + 1) heads found → IsFoundIn s (head ∷ heads) found
+found_rest : (s : ℕ) (head : Upcoming) (heads : List Upcoming) (found : Option Moment) → IsFoundIn (s + 1) heads found → IsFoundIn s (head ∷ heads) found
 found_rest s head heads None is = tt
 found_rest s head heads (Some moment) is = record {
   place = suc is.place;
@@ -103,7 +103,7 @@ found_rest s head heads (Some moment) is = record {
     further : s + 1 + is.place ≡ s + suc is.place
     further = omega arith
 
-found_either : (s : ℕ) (heads : List Head) (one other : Option Moment) → IsFoundIn s heads one → IsFoundIn s heads other → IsFoundIn s heads (earlier_of one other)
+found_either : (s : ℕ) (heads : List Upcoming) (one other : Option Moment) → IsFoundIn s heads one → IsFoundIn s heads other → IsFoundIn s heads (earlier_of one other)
 found_either s heads None other a b = b
 found_either s heads (Some one) None a b = a
 found_either s heads (Some one) (Some other) a b = by (is_earlier other one)
@@ -112,11 +112,11 @@ found_either s heads (Some one) (Some other) a b = by (is_earlier other one)
     by true = b
     by false = a
 
-found : (s : ℕ) (heads : List Head) → IsFoundIn s heads (earliest s heads)
+found : (s : ℕ) (heads : List Upcoming) → IsFoundIn s heads (earliest s heads)
 found s [] = tt
 found s (head ∷ heads) = found_either s (head ∷ heads) (moment_of s head) (earliest (s + 1) heads) (found_first s head heads head.next refl) (found_rest s head heads (earliest (s + 1) heads) (found (s + 1) heads))
 
-pub found_at : (s : ℕ) (heads : List Head) (moment : Moment) → earliest s heads ≡ Some moment → FoundAt s heads moment
+pub found_at : (s : ℕ) (heads : List Upcoming) (moment : Moment) → earliest s heads ≡ Some moment → FoundAt s heads moment
 found_at s heads moment is = subst (IsFoundIn s heads) is (found s heads)
 
 -- ---- lists
@@ -133,11 +133,11 @@ in_order_more : (passed : List Dated) (dated : Dated) → InOrder passed → All
 in_order_more [] dated order all = (tt, tt)
 in_order_more (one ∷ others) dated order all = (all_more (λ (other : Dated). is_earlier (dated_moment one) (dated_moment other) ≡ true) others dated order.0 all.0, in_order_more others dated order.1 all.1)
 
-none_of : (test : Head → Bool) (heads : List Head) (k : ℕ) (head : Head) → list_any test heads ≡ false → slice_get heads k ≡ Some head → test head ≡ false
+none_of : (test : Upcoming → Bool) (heads : List Upcoming) (k : ℕ) (head : Upcoming) → list_any test heads ≡ false → slice_get heads k ≡ Some head → test head ≡ false
 none_of test [] k head none there = absurd cc
 none_of test (first ∷ heads) zero head none there =
     let same : first ≡ head = cc in
-    subst (λ (h : Head). test h ≡ false) same (by (test first) none)
+    subst (λ (h : Upcoming). test h ≡ false) same (by (test first) none)
   where
     by : (b : Bool) → (b || list_any test heads) ≡ false → b ≡ false
     by true is = absurd cc
@@ -195,10 +195,10 @@ set_other (y ∷ ys) (suc k) zero x apart = refl
 set_other (y ∷ ys) (suc k) (suc j) x apart = set_other ys k j x (λ e. apart (ap suc e))
 
 -- one is known otherwise: what holds of it, and of each other one, holds of each
-each_set : (P : ℕ → Head → Type 0) (heads : List Head) (k : ℕ) (old new : Head) → ((place : ℕ) (head : Head) → (place ≡ k → ⊥) → slice_get heads place ≡ Some head → P place head) → slice_get heads k ≡ Some old → P k new → (place : ℕ) (head : Head) → slice_get (set heads k new) place ≡ Some head → P place head
+each_set : (P : ℕ → Upcoming → Type 0) (heads : List Upcoming) (k : ℕ) (old new : Upcoming) → ((place : ℕ) (head : Upcoming) → (place ≡ k → ⊥) → slice_get heads place ≡ Some head → P place head) → slice_get heads k ≡ Some old → P k new → (place : ℕ) (head : Upcoming) → slice_get (set heads k new) place ≡ Some head → P place head
 each_set P heads k old new each there is = λ place head got. by place head got (place == k) refl
   where
-    by : (place : ℕ) (head : Head) → slice_get (set heads k new) place ≡ Some head → (b : Bool) → (place == k) ≡ b → P place head
+    by : (place : ℕ) (head : Upcoming) → slice_get (set heads k new) place ≡ Some head → (b : Bool) → (place == k) ≡ b → P place head
     by place head got true here =
         let at : place ≡ k = (Decides-eqb place k).0 here in
         let same : new ≡ head = (let both : Some new ≡ Some head = sym (placed heads k new old there) ∙ ap (slice_get (set heads k new)) (sym at) ∙ got in cc) in
@@ -209,27 +209,27 @@ each_set P heads k old new each there is = λ place head got. by place head got 
 
 -- each is of its space
 
-spaces_set : (heads : List Head) (k : ℕ) (old new : Head) → AreOfSpaces heads → slice_get heads k ≡ Some old → IsOfSpace (k + 1) new.next → AreOfSpaces (set heads k new)
+spaces_set : (heads : List Upcoming) (k : ℕ) (old new : Upcoming) → AreOfSpaces heads → slice_get heads k ≡ Some old → IsOfSpace (k + 1) new.next → AreOfSpaces (set heads k new)
 spaces_set heads k old new are there is = record {
   few = subst (λ (l : ℕ). l ≤ 32) (sym (length-set heads k new)) are.few;
-  own = each_set (λ (place : ℕ) (head : Head). IsOfSpace (place + 1) head.next) heads k old new (λ place head apart got. are.own place head got) there is;
+  own = each_set (λ (place : ℕ) (head : Upcoming). IsOfSpace (place + 1) head.next) heads k old new (λ place head apart got. are.own place head got) there is;
 }
 
-pub spaces_told : (heads : List Head) (dated : Dated) (head : Head) → AreOfSpaces heads → 1 ≤ dated.entry.space → slice_get heads (dated.entry.space - 1) ≡ Some head → AreOfSpaces (set heads (dated.entry.space - 1) (told dated))
+pub spaces_told : (heads : List Upcoming) (dated : Dated) (head : Upcoming) → AreOfSpaces heads → 1 ≤ dated.entry.space → slice_get heads (dated.entry.space - 1) ≡ Some head → AreOfSpaces (set heads (dated.entry.space - 1) (told dated))
 spaces_told heads dated head are low there = spaces_set heads (dated.entry.space - 1) head (told dated) are there (let number : dated.entry.space ≡ dated.entry.space - 1 + 1 = omega (arith, low) in number)
 
-spaces_changed : (change : Head → Head) (heads : List Head) (place : ℕ) (found : Option Head) → slice_get heads place ≡ found → ((s : ℕ) (head : Head) → IsOfSpace s head.next → IsOfSpace s (change head).next) → AreOfSpaces heads → AreOfSpaces (changed_at change place heads found)
+spaces_changed : (change : Upcoming → Upcoming) (heads : List Upcoming) (place : ℕ) (found : Option Upcoming) → slice_get heads place ≡ found → ((s : ℕ) (head : Upcoming) → IsOfSpace s head.next → IsOfSpace s (change head).next) → AreOfSpaces heads → AreOfSpaces (changed_at change place heads found)
 spaces_changed change heads place None there keeps are = are
 spaces_changed change heads place (Some head) there keeps are = spaces_set heads place head (change head) are there (keeps (place + 1) head (are.own place head there))
 
-pub spaces_ended : (p : ℕ) (heads : List Head) → AreOfSpaces heads → AreOfSpaces (with_end p heads)
+pub spaces_ended : (p : ℕ) (heads : List Upcoming) → AreOfSpaces heads → AreOfSpaces (with_end p heads)
 spaces_ended p heads are = spaces_changed with_ended heads (p - 1) (slice_get heads (p - 1)) refl (λ s head own. own) are
 
-pub spaces_passed : (p : ℕ) (heads : List Head) → AreOfSpaces heads → AreOfSpaces (with_passed p heads)
+pub spaces_passed : (p : ℕ) (heads : List Upcoming) → AreOfSpaces heads → AreOfSpaces (with_passed p heads)
 spaces_passed p heads are = spaces_changed without_next heads (p - 1) (slice_get heads (p - 1)) refl (λ s head own. tt) are
 
 -- nothing is known where nothing was told
-none_known : (count place : ℕ) (head : Head) → slice_get (replicate count no_head) place ≡ Some head → no_head ≡ head
+none_known : (count place : ℕ) (head : Upcoming) → slice_get (replicate count no_head) place ≡ Some head → no_head ≡ head
 none_known zero place head got = absurd cc
 none_known (suc count) zero head got = cc
 none_known (suc count) (suc place) head got = none_known count place head got
@@ -237,7 +237,7 @@ none_known (suc count) (suc place) head got = none_known count place head got
 pub spaces_none : (count : ℕ) → count ≤ 32 → AreOfSpaces (replicate count no_head)
 spaces_none count few = record {
   few = subst (λ (l : ℕ). l ≤ 32) (sym (long count)) few;
-  own = λ place head got. subst (λ (h : Head). IsOfSpace (place + 1) h.next) (none_known count place head got) tt;
+  own = λ place head got. subst (λ (h : Upcoming). IsOfSpace (place + 1) h.next) (none_known count place head got) tt;
 }
   where
     long : (count : ℕ) → length (replicate count no_head) ≡ count
@@ -247,7 +247,7 @@ spaces_none count few = record {
 -- ---- which is due
 
 -- the one at whose space the earliest moment is
-pub due_at : (heads : List Head) (moment : Moment) (head : Head) (dated : Dated) → AreOfSpaces heads → earliest 1 heads ≡ Some moment → list_any (may_come moment.stamp) heads ≡ false → slice_get heads (moment.space - 1) ≡ Some head → head.next ≡ Some dated → IsDue heads dated
+pub due_at : (heads : List Upcoming) (moment : Moment) (head : Upcoming) (dated : Dated) → AreOfSpaces heads → earliest 1 heads ≡ Some moment → list_any (may_come moment.stamp) heads ≡ false → slice_get heads (moment.space - 1) ≡ Some head → head.next ≡ Some dated → IsDue heads dated
 due_at heads moment head dated are first none there next = record {
   none_may_come = subst (λ (s : ℕ). list_any (may_come s) heads ≡ false) stamp_is none;
   earliest_is = first ∙ ap Some moment_is;
@@ -266,7 +266,7 @@ due_at heads moment head dated are first none there next = record {
     same = let both : Some head ≡ Some at.head = sym there ∙ ap (slice_get heads) place_is ∙ at.there in cc
 
     same_dated : at.dated ≡ dated
-    same_dated = let both : Some at.dated ≡ Some dated = sym at.next ∙ ap (λ (h : Head). h.next) (sym same) ∙ next in cc
+    same_dated = let both : Some at.dated ≡ Some dated = sym at.next ∙ ap (λ (h : Upcoming). h.next) (sym same) ∙ next in cc
 
     stamp_is : moment.stamp ≡ dated.stamp
     stamp_is = ap (λ (m : Moment). m.stamp) at.moment_is ∙ ap (λ (d : Dated). d.stamp) same_dated
@@ -281,22 +281,22 @@ due_at heads moment head dated are first none there next = record {
     moment_is = λ i. record { stamp = stamp_is i; space = space_is i }
 
 -- there is one
-pub one_is_there : (heads : List Head) (moment : Moment) (head : Head) → earliest 1 heads ≡ Some moment → slice_get heads (moment.space - 1) ≡ Some head → head.next ≡ None → ⊥
+pub one_is_there : (heads : List Upcoming) (moment : Moment) (head : Upcoming) → earliest 1 heads ≡ Some moment → slice_get heads (moment.space - 1) ≡ Some head → head.next ≡ None → ⊥
 one_is_there heads moment head first there none =
     let at = found_at 1 heads moment first in
     let is : moment.space ≡ 1 + at.place = ap (λ (m : Moment). m.space) at.moment_is in
     let place_is : moment.space - 1 ≡ at.place = omega (arith, is) in
     let same : head ≡ at.head = (let both : Some head ≡ Some at.head = sym there ∙ ap (slice_get heads) place_is ∙ at.there in cc) in
-    let clash : None ≡ Some at.dated = sym none ∙ ap (λ (h : Head). h.next) same ∙ at.next in absurd cc
+    let clash : None ≡ Some at.dated = sym none ∙ ap (λ (h : Upcoming). h.next) same ∙ at.next in absurd cc
 
 -- a place where something stands is below the length
-within : (xs : List Head) (k : ℕ) (x : Head) → slice_get xs k ≡ Some x → k < length xs
+within : (xs : List Upcoming) (k : ℕ) (x : Upcoming) → slice_get xs k ≡ Some x → k < length xs
 within [] k x is = absurd cc
 within (y ∷ ys) zero x is = omega arith
 within (y ∷ ys) (suc k) x is = let low = within ys k x is in omega (arith, low)
 
 -- its place is one of the list
-pub there_low : (heads : List Head) (moment : Moment) → earliest 1 heads ≡ Some moment → moment.space - 1 < length heads
+pub there_low : (heads : List Upcoming) (moment : Moment) → earliest 1 heads ≡ Some moment → moment.space - 1 < length heads
 there_low heads moment first =
     let at = found_at 1 heads moment first in
     let is : moment.space ≡ 1 + at.place = ap (λ (m : Moment). m.space) at.moment_is in
@@ -304,38 +304,38 @@ there_low heads moment first =
     omega (arith, is, low)
 
 -- and so is that of the one that is due
-pub due_within : (heads : List Head) (dated : Dated) → AreOfSpaces heads → IsDue heads dated → (1 ≤ dated.entry.space) × (dated.entry.space ≤ length heads)
+pub due_within : (heads : List Upcoming) (dated : Dated) → AreOfSpaces heads → IsDue heads dated → (1 ≤ dated.entry.space) × (dated.entry.space ≤ length heads)
 due_within heads dated are due =
     let own : dated.entry.space ≡ dated.entry.space - 1 + 1 = subst (IsOfSpace (dated.entry.space - 1 + 1)) due.next (are.own (dated.entry.space - 1) due.head due.there) in
     let low : dated.entry.space - 1 < length heads = within heads (dated.entry.space - 1) due.head due.there in
     (omega (arith, own), omega (arith, own, low))
 
-pub none_due : (heads : List Head) (dated : Dated) → earliest 1 heads ≡ None → IsDue heads dated → ⊥
+pub none_due : (heads : List Upcoming) (dated : Dated) → earliest 1 heads ≡ None → IsDue heads dated → ⊥
 none_due heads dated none due = let clash : None ≡ Some (dated_moment dated) = sym none ∙ due.earliest_is in absurd cc
 
-pub may_come_first : (heads : List Head) (moment : Moment) (dated : Dated) → earliest 1 heads ≡ Some moment → list_any (may_come moment.stamp) heads ≡ true → IsDue heads dated → ⊥
+pub may_come_first : (heads : List Upcoming) (moment : Moment) (dated : Dated) → earliest 1 heads ≡ Some moment → list_any (may_come moment.stamp) heads ≡ true → IsDue heads dated → ⊥
 may_come_first heads moment dated first some due =
     let same : moment ≡ dated_moment dated = (let both : Some moment ≡ Some (dated_moment dated) = sym first ∙ due.earliest_is in cc) in
     let clash : true ≡ false = sym some ∙ ap (λ (m : Moment). list_any (may_come m.stamp) heads) same ∙ due.none_may_come in absurd cc
 
 -- ---- what was passed stays before what is known
 
-ahead_set : (passed : List Dated) (heads : List Head) (k : ℕ) (old new : Head) → AreAhead passed heads → slice_get heads k ≡ Some old → IsAhead passed new → AreAhead passed (set heads k new)
-ahead_set passed heads k old new are there is = each_set (λ (place : ℕ) (head : Head). IsAhead passed head) heads k old new (λ place head apart got. are place head got) there is
+ahead_set : (passed : List Dated) (heads : List Upcoming) (k : ℕ) (old new : Upcoming) → AreAhead passed heads → slice_get heads k ≡ Some old → IsAhead passed new → AreAhead passed (set heads k new)
+ahead_set passed heads k old new are there is = each_set (λ (place : ℕ) (head : Upcoming). IsAhead passed head) heads k old new (λ place head apart got. are place head got) there is
 
-pub all_told : (passed : List Dated) (heads : List Head) (dated : Dated) (head : Head) → AreAhead passed heads → slice_get heads (dated.entry.space - 1) ≡ Some head → is_wanted head ≡ true → head.last < dated.stamp → AreAhead passed (set heads (dated.entry.space - 1) (told dated))
+pub all_told : (passed : List Dated) (heads : List Upcoming) (dated : Dated) (head : Upcoming) → AreAhead passed heads → slice_get heads (dated.entry.space - 1) ≡ Some head → is_wanted head ≡ true → head.last < dated.stamp → AreAhead passed (set heads (dated.entry.space - 1) (told dated))
 all_told passed heads dated head are there wanted less = ahead_set passed heads (dated.entry.space - 1) head (told dated) are there (ahead_told passed dated head.next head.last head.ended wanted less (are (dated.entry.space - 1) head there))
 
-pub all_ended : (passed : List Dated) (p : ℕ) (heads : List Head) → AreAhead passed heads → AreAhead passed (with_end p heads)
+pub all_ended : (passed : List Dated) (p : ℕ) (heads : List Upcoming) → AreAhead passed heads → AreAhead passed (with_end p heads)
 all_ended passed p heads are = by (slice_get heads (p - 1)) refl
   where
-    by : (found : Option Head) → slice_get heads (p - 1) ≡ found → AreAhead passed (changed_at with_ended (p - 1) heads found)
+    by : (found : Option Upcoming) → slice_get heads (p - 1) ≡ found → AreAhead passed (changed_at with_ended (p - 1) heads found)
     by None there = are
     by (Some head) there = ahead_set passed heads (p - 1) head (with_ended head) are there (ahead_ended passed head.next head.last head.ended (are (p - 1) head there))
 
 -- the one that is due is passed
-pub all_passed : (passed : List Dated) (heads : List Head) (dated : Dated) → AreOfSpaces heads → AreAhead passed heads → IsDue heads dated → AreAhead (passed ++ dated ∷ []) (with_passed dated.entry.space heads)
-all_passed passed heads dated spaces are due = subst (λ (o : Option Head). AreAhead (passed ++ dated ∷ []) (changed_at without_next (dated.entry.space - 1) heads o)) (sym due.there) (each_set (λ (place : ℕ) (head : Head). IsAhead (passed ++ dated ∷ []) head) heads (dated.entry.space - 1) due.head (without_next due.head) others due.there own)
+pub all_passed : (passed : List Dated) (heads : List Upcoming) (dated : Dated) → AreOfSpaces heads → AreAhead passed heads → IsDue heads dated → AreAhead (passed ++ dated ∷ []) (with_passed dated.entry.space heads)
+all_passed passed heads dated spaces are due = subst (λ (o : Option Upcoming). AreAhead (passed ++ dated ∷ []) (changed_at without_next (dated.entry.space - 1) heads o)) (sym due.there) (each_set (λ (place : ℕ) (head : Upcoming). IsAhead (passed ++ dated ∷ []) head) heads (dated.entry.space - 1) due.head (without_next due.head) others due.there own)
   where
     low : 1 ≤ dated.entry.space
     low = (due_within heads dated spaces due).0
@@ -343,7 +343,7 @@ all_passed passed heads dated spaces are due = subst (λ (o : Option Head). AreA
     own : IsAhead (passed ++ dated ∷ []) (without_next due.head)
     own = ahead_own passed dated due.head.last due.head.ended (subst (λ (o : Option Dated). IsAheadBy passed o due.head.last due.head.ended) due.next (are (dated.entry.space - 1) due.head due.there))
 
-    earlier : (place : ℕ) (it : Head) → (place ≡ dated.entry.space - 1 → ⊥) → slice_get heads place ≡ Some it → (other : Dated) → it.next ≡ Some other → is_earlier (dated_moment dated) (dated_moment other) ≡ true
+    earlier : (place : ℕ) (it : Upcoming) → (place ≡ dated.entry.space - 1 → ⊥) → slice_get heads place ≡ Some it → (other : Dated) → it.next ≡ Some other → is_earlier (dated_moment dated) (dated_moment other) ≡ true
     earlier place it apart is other its_next =
         let of_space : other.entry.space ≡ place + 1 = subst (IsOfSpace (place + 1)) its_next (spaces.own place it is) in
         let behind : is_earlier (record { stamp = other.stamp; space = 1 + place }) (dated_moment dated) ≡ false = subst (λ (o : Option Moment). IsNoEarlier o (record { stamp = other.stamp; space = 1 + place })) due.earliest_is (least 1 heads place it other is its_next) in
@@ -351,11 +351,11 @@ all_passed passed heads dated spaces are due = subst (λ (o : Option Head). AreA
         let behind_it : is_earlier (dated_moment other) (dated_moment dated) ≡ false = subst (λ (s : ℕ). is_earlier (record { stamp = other.stamp; space = s }) (dated_moment dated) ≡ false) number behind in
         earlier_else (dated_moment dated) (dated_moment other) behind_it (λ same. apart (omega (arith, same, of_space, low)))
 
-    others : (place : ℕ) (it : Head) → (place ≡ dated.entry.space - 1 → ⊥) → slice_get heads place ≡ Some it → IsAhead (passed ++ dated ∷ []) it
+    others : (place : ℕ) (it : Upcoming) → (place ≡ dated.entry.space - 1 → ⊥) → slice_get heads place ≡ Some it → IsAhead (passed ++ dated ∷ []) it
     others place it apart is = ahead_still passed dated (place + 1) it.next it.last it.ended (spaces.own place it is) (are place it is) (earlier place it apart is) (none_of (may_come dated.stamp) heads place it due.none_may_come is)
 
 -- what was passed is still in order
-pub order_passed : (passed : List Dated) (heads : List Head) (dated : Dated) → AreAhead passed heads → InOrder passed → IsDue heads dated → InOrder (passed ++ dated ∷ [])
+pub order_passed : (passed : List Dated) (heads : List Upcoming) (dated : Dated) → AreAhead passed heads → InOrder passed → IsDue heads dated → InOrder (passed ++ dated ∷ [])
 order_passed passed heads dated are order due =
     let ahead = subst (λ (o : Option Dated). IsAheadBy passed o due.head.last due.head.ended) due.next (are (dated.entry.space - 1) due.head due.there) in
     in_order_more passed dated order ahead.1
@@ -364,16 +364,16 @@ order_passed passed heads dated are order due =
 pub all_none : (count : ℕ) → AreAhead [] (replicate count no_head)
 all_none count place head got = subst (IsAhead []) (none_known count place head got) tt
 
-pub passed_length : (p : ℕ) (heads : List Head) → length (with_passed p heads) ≡ length heads
+pub passed_length : (p : ℕ) (heads : List Upcoming) → length (with_passed p heads) ≡ length heads
 passed_length p heads = by (slice_get heads (p - 1))
   where
-    by : (found : Option Head) → length (changed_at without_next (p - 1) heads found) ≡ length heads
+    by : (found : Option Upcoming) → length (changed_at without_next (p - 1) heads found) ≡ length heads
     by None = refl
     by (Some head) = length-set heads (p - 1) (without_next head)
 
-pub ended_length : (p : ℕ) (heads : List Head) → length (with_end p heads) ≡ length heads
+pub ended_length : (p : ℕ) (heads : List Upcoming) → length (with_end p heads) ≡ length heads
 ended_length p heads = by (slice_get heads (p - 1))
   where
-    by : (found : Option Head) → length (changed_at with_ended (p - 1) heads found) ≡ length heads
+    by : (found : Option Upcoming) → length (changed_at with_ended (p - 1) heads found) ≡ length heads
     by None = refl
     by (Some head) = length-set heads (p - 1) (with_ended head)

@@ -3,7 +3,7 @@ use Rattle.std.specs.Prelude.{◌≡◌, ◌≤◌, ⊤, ℕ, Bool, true, false,
 use Rattle.std.specs.List.{AllByRecursion}
 use Rattle.nob_model_traces.specs.Merged.{is_earlier}
 use Rattle.nob_told.specs.declared.dated.Dated.{Dated}
-use Rattle.nob_told.specs.declared.head.Head.{Head}
+use Rattle.nob_told.specs.declared.head.Upcoming.{Upcoming}
 use Rattle.nob_told.specs.Dues.{dated_moment}
 
 -- each entry is earlier than all that stand behind it
@@ -18,9 +18,9 @@ IsAheadBy passed None last true = ⊤
 IsAheadBy passed None last false = AllByRecursion (λ dated. dated.stamp ≤ last) passed
 
 -- the same of what is known of a space
-abbrev pub IsAhead : List Dated → Head → Type 0
+abbrev pub IsAhead : List Dated → Upcoming → Type 0
 IsAhead passed head = IsAheadBy passed head.next head.last head.ended
 
 -- the same of each space
-abbrev pub AreAhead : List Dated → List Head → Type 0
-AreAhead passed heads = (place : ℕ) (head : Head) → slice_get heads place ≡ Some head → IsAhead passed head
+abbrev pub AreAhead : List Dated → List Upcoming → Type 0
+AreAhead passed heads = (place : ℕ) (head : Upcoming) → slice_get heads place ≡ Some head → IsAhead passed head

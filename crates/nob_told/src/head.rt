@@ -11,7 +11,7 @@ use nob_model_traces::Moment;
 
 /// What is known of the entries of a space that weren't passed yet.
 #[derive(Debug, Drop)]
-pub struct Head {
+pub struct Upcoming {
     /// The next one, if it was told.
     pub next: Option<Dated>,
     /// The stamp of the last one that was told: 0 before the first.
@@ -21,10 +21,10 @@ pub struct Head {
 }
 
 /// Nothing was told of a space yet.
-pub(crate) fn no_head() -> Head
+pub(crate) fn no_head() -> Upcoming
     ensures { result ≡ words.no_head }
 {
-    Head {
+    Upcoming {
         next: None,
         last: 0,
         ended: false,
@@ -32,14 +32,14 @@ pub(crate) fn no_head() -> Head
 }
 
 /// Whether a space has more entries, of which none was told.
-pub(crate) fn is_wanted(head: &Head) -> bool
+pub(crate) fn is_wanted(head: &Upcoming) -> bool
     ensures { result ≡ words.is_wanted head.now }
 {
     head.next.is_none() && !head.ended
 }
 
 // Whether the next entry of a space wasn't told yet, and may have this stamp or a lower one.
-fn may_come(stamp: u64, head: &Head) -> bool
+fn may_come(stamp: u64, head: &Upcoming) -> bool
     ensures { result ≡ words.may_come stamp head.now }
 {
     is_wanted(head) && head.last < stamp
@@ -47,7 +47,7 @@ fn may_come(stamp: u64, head: &Head) -> bool
 
 /// Whether the next entry of one of these spaces wasn't told yet, and may have this stamp or a lower
 /// one. Linear in the spaces.
-pub(crate) fn any_may_come(stamp: u64, heads: &[Head]) -> bool
+pub(crate) fn any_may_come(stamp: u64, heads: &[Upcoming]) -> bool
     ensures { result ≡ list_any (words.may_come stamp) heads.now }
 {
     match heads {
@@ -57,7 +57,7 @@ pub(crate) fn any_may_come(stamp: u64, heads: &[Head]) -> bool
 }
 
 // When the next entry of a space was made.
-fn moment_of(place: usize, head: &Head) -> Option<Moment>
+fn moment_of(place: usize, head: &Upcoming) -> Option<Moment>
     requires { place < 32 }
     ensures { result ≡ words.moment_of (place + 1) head.now }
 {
@@ -101,7 +101,7 @@ fn earlier_of(one: Option<Moment>, other: Option<Moment>) -> Option<Moment>
 
 /// When the earliest of the next entries was made, of spaces that are counted from this place on.
 /// Linear in the spaces.
-pub(crate) fn earliest(place: usize, heads: &[Head]) -> Option<Moment>
+pub(crate) fn earliest(place: usize, heads: &[Upcoming]) -> Option<Moment>
     requires { place + length heads.now ≤ 32 }
     ensures { result ≡ words.earliest (place + 1) heads.now }
 {
@@ -115,7 +115,7 @@ pub(crate) fn earliest(place: usize, heads: &[Head]) -> Option<Moment>
 }
 
 /// Whether an entry can be told of a space of which this is known.
-pub(crate) fn can_tell(head: &Head, dated: &Dated) -> bool
+pub(crate) fn can_tell(head: &Upcoming, dated: &Dated) -> bool
     ensures yes { result ≡ true → words.CanTell head.now dated.now }
     ensures no { result ≡ false → words.CanTell head.now dated.now → ⊥ }
 {
@@ -123,11 +123,11 @@ pub(crate) fn can_tell(head: &Head, dated: &Dated) -> bool
 }
 
 /// What is known of a space once an entry was told.
-pub(crate) fn told(dated: Dated) -> Head
+pub(crate) fn told(dated: Dated) -> Upcoming
     ensures { result ≡ words.told dated }
 {
     let last = dated.stamp;
-    Head {
+    Upcoming {
         next: Some(dated),
         last,
         ended: false,

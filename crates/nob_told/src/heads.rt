@@ -5,7 +5,7 @@ ghost use Rattle.nob_told.specs.declared.dated.Dated.{Dated as DatedOf};
 ghost use Rattle.nob_told.specs.Dues as words;
 
 use crate::dated::Dated;
-use crate::head::{Head, any_may_come, can_tell, earliest, is_wanted, no_head, told};
+use crate::head::{Upcoming, any_may_come, can_tell, earliest, is_wanted, no_head, told};
 use nob_ids::SpaceId;
 use std::alloc::{AllocError, Global};
 use std::marker::Model;
@@ -14,15 +14,15 @@ use std::marker::Model;
 /// space p stands at place p - 1. There are 32 spaces at most.
 #[derive(Debug, Drop)]
 pub struct Heads {
-    heads: Vec<Head>,
+    heads: Vec<Upcoming>,
 }
 
 impl Model for Heads {
     ghost use Rattle.std.specs.Prelude.{List};
-    ghost use Rattle.nob_told.specs.declared.head.Head.{Head};
+    ghost use Rattle.nob_told.specs.declared.head.Upcoming.{Upcoming};
     ghost use Rattle.nob_told.specs.Dues.{AreOfSpaces};
 
-    ghost Value = { List Head };
+    ghost Value = { List Upcoming };
 
     ghost use Rattle.std.specs.Coded.{codes};
     ghost use Rattle.nob_pickle.specs.Marks.{trees_code};
@@ -41,7 +41,7 @@ impl Heads {
         requires { count ≤ 32 }
         ensures { IfOk result (λ heads. heads ≡ replicate count words.no_head) }
     {
-        let mut heads: Vec<Head> = Vec::new(alloc);
+        let mut heads: Vec<Upcoming> = Vec::new(alloc);
         for _ in 0..count {
             heads.push(no_head())?;
         }
@@ -96,7 +96,7 @@ impl Heads {
 }
 
 // The entry that is due.
-fn due_of(heads: &[Head]) -> Option<&Dated>
+fn due_of(heads: &[Upcoming]) -> Option<&Dated>
     requires { words.AreOfSpaces heads.now }
     ensures { MatchOption result ((dated : DatedOf) → words.IsDue heads.now dated → ⊥)
         (λ dated. words.IsDue heads.now dated.now) }
@@ -114,7 +114,7 @@ fn due_of(heads: &[Head]) -> Option<&Dated>
 }
 
 // The place at which an entry can be told.
-fn place_for(heads: &[Head], dated: &Dated) -> Option<usize>
+fn place_for(heads: &[Upcoming], dated: &Dated) -> Option<usize>
     ensures some { IfSome result (λ at. words.CanTellAt heads.now at dated.now) }
     ensures none { result ≡ None → words.CannotTell heads.now dated.now }
 {
@@ -131,7 +131,7 @@ fn place_for(heads: &[Head], dated: &Dated) -> Option<usize>
 }
 
 // The next entry of its space is told, where it can be.
-fn put_told(heads: &mut Vec<Head>, dated: Dated) -> Result<(), Dated>
+fn put_told(heads: &mut Vec<Upcoming>, dated: Dated) -> Result<(), Dated>
     ensures ok { OnOk result (words.IsTold heads.old.items heads.new.items dated) }
     ensures back { IfErr result (λ back. back ≡ dated) }
     ensures err { OnErr result (heads.new.items ≡ heads.old.items) }
@@ -147,7 +147,7 @@ fn put_told(heads: &mut Vec<Head>, dated: Dated) -> Result<(), Dated>
 }
 
 // There are no more entries of a space.
-fn put_end(heads: &mut Vec<Head>, space: SpaceId)
+fn put_end(heads: &mut Vec<Upcoming>, space: SpaceId)
     ensures { heads.new.items ≡ words.with_end space heads.old.items }
 {
     let at = space.place();
@@ -157,7 +157,7 @@ fn put_end(heads: &mut Vec<Head>, space: SpaceId)
 }
 
 // The next entry of a space was passed.
-fn put_passed(heads: &mut Vec<Head>, space: SpaceId)
+fn put_passed(heads: &mut Vec<Upcoming>, space: SpaceId)
     ensures { heads.new.items ≡ words.with_passed space heads.old.items }
 {
     let at = space.place();

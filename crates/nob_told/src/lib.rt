@@ -7,5 +7,5 @@ mod head;
 mod heads;
 
 pub use dated::{Dated, SegmentSeal};
-pub use head::Head;
+pub use head::Upcoming;
 pub use heads::Heads;
