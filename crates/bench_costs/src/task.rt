@@ -51,7 +51,7 @@ pub(crate) enum Round {
     Transmit,
 }
 
-/// So much is held, and then so many rounds are made.
+/// How much is held first, and how many rounds are made then.
 #[derive(Clone, Copy, Debug)]
 pub(crate) struct Task {
     pub(crate) kept: Kept,

@@ -8,8 +8,8 @@ use std::alloc::Global;
 use std::sync::Wait;
 use std::thread::{self, Threads};
 
-/// So many threads, 1, 2 or 4, each hold one object so many times once more and give that back:
-/// how many of these calls were answered. `None` where there is no memory.
+/// Some threads, 1, 2 or 4, each hold one object once more and give that back, over and over: how
+/// many of these calls were answered. `None` where there is no memory.
 pub(crate) fn run_on<R: Threads + Wait + Sync>(
     rt: &R,
     alloc: Global,

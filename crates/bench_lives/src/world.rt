@@ -5,16 +5,16 @@ use nob_model::{Answer, Event, Outcome, WorldStep};
 use nob_pickle::Value;
 use nob_world::{World, WorldError};
 
-/// So many spaces the world has.
+/// The number of spaces in the world.
 pub(crate) const SPACES: u32 = 4;
 
-// So many items are acted on after one carriage at most, so that each walk ends.
+// The maximum number of items acted on after one carriage, so that each walk ends.
 const MOST_ITEMS: usize = 64;
 
 // The method that is called.
 const METHOD: u16 = 1;
 
-/// So many lives, of objects of each space in turn: whether each came to its end.
+/// Lets objects of each space in turn live and end, `lives` in all: whether each came to its end.
 pub(crate) fn live(world: &mut World, lives: u32) -> Result<bool, WorldError> {
     for life in 0..lives {
         let place = life % SPACES;

@@ -9,11 +9,11 @@ use nob_pickle::{Value, Values};
 use nob_rounds::Words;
 use std::alloc::{AllocError, Global};
 
-// So many bytes a frame has beside its payload.
+// The bytes of a frame beside its payload.
 const HEADER: usize = 32;
 
-// So many bytes a Call's item has whose value is a list of bytes twice, beside these; and so many a
-// reference takes.
+// The bytes of a Call's item beside its value, where that is a list of bytes twice; and those of a
+// reference.
 const AROUND: usize = 32;
 
 const REFERENCE: usize = 11;

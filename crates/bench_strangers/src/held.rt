@@ -7,7 +7,7 @@ use nob_model::{Answer, Event};
 use nob_space::{Space, SpaceError};
 use std::alloc::{AllocError, Global};
 
-/// So many spaces there are; all but the first are strangers.
+/// The number of spaces; all but the first are strangers.
 pub(crate) const SPACES: u16 = 32;
 
 /// A new space. Only memory fails it.

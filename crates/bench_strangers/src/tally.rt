@@ -7,19 +7,19 @@ use std::alloc::AllocError;
 /// How many frames had which end.
 #[derive(Clone, Copy, Debug)]
 pub(crate) struct Tally {
-    /// So many were written.
+    /// How many were written.
     pub(crate) frames: u64,
-    /// So many were read.
+    /// How many were read.
     pub(crate) read: u64,
-    /// So many brought an item.
+    /// How many brought an item.
     pub(crate) taken: u64,
-    /// So many brought nothing.
+    /// How many brought nothing.
     pub(crate) passed: u64,
-    /// So many items were acted on.
+    /// How many items were acted on.
     pub(crate) acted: u64,
-    /// So many events closed a session.
+    /// How many events closed a session.
     pub(crate) closed: u64,
-    /// So many events were refused.
+    /// How many events were refused.
     pub(crate) refused: u64,
 }
 

@@ -10,10 +10,10 @@ use nob_pickle::Value;
 use std::alloc::{AllocError, Global};
 use std::slice;
 
-/// So many equal bytes, or more, are written once, with their number.
+/// At least this many equal bytes in a row are written once, with their number.
 const LONG_RUN: usize = 16;
 
-/// So many equal elements, or more, are written once, with their number.
+/// At least this many equal elements in a row are written once, with their number.
 const MANY_ELEMENTS: usize = 4;
 
 /// A pickle has no more values, lists counted twice.

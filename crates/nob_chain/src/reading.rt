@@ -192,8 +192,8 @@ fn seal_at<'a>(
     Ok((seal, rest))
 }
 
-// So many entries behind this stamp, whose stamps rise, at the front of a text, and what is left;
-// or R1, R2 or R3.
+// The entries at the front of a text, `count` of them, whose stamps rise from this one, and what is
+// left; or R1, R2 or R3.
 fn entries_at(
     alloc: Global,
     last: u64,

@@ -9,10 +9,10 @@ use nob_demo_spaces::Fault;
 use std::alloc::Global;
 use std::io::Read;
 
-/// So many bytes of input at most.
+/// The maximum size of the input, in bytes.
 const MOST_BYTES: usize = 1 << 26;
 
-/// So many bytes a read asks for.
+/// The bytes that one read asks for.
 const PIECE: usize = 4096;
 
 /// The whole input, by at most 2^20 reads and at most 2^26 bytes: a read that fails, or more than

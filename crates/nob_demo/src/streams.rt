@@ -7,7 +7,7 @@ ghost use Rattle.nob_demo.specs.Program.{most_bytes, most_reads, least_room};
 
 use std::io::{Read, Write};
 
-/// So many reads at most.
+/// The maximum number of reads.
 pub const MOST_READS: u32 = 1 << 20;
 
 /// A read failed.

@@ -14,5 +14,5 @@ pub use gathering::gather;
 pub use making::lane;
 pub use rule::{Fair, Knowledge};
 
-/// So many errands a lane holds at most.
+/// The maximum number of errands in a lane.
 pub const MOST_ERRANDS: usize = 1024;

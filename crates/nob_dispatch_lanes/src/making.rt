@@ -47,7 +47,7 @@ pub fn lane<T: Drop>(
     Ok((giving, getting))
 }
 
-// So many ends that get from the lane of the first end that gives, which gives up a part for each.
+// `takes` ends that get from the lane of the first end that gives, which gives up a part for each.
 fn getters<T: Drop>(
     alloc: Global,
     first: &mut LanePut<T>,
@@ -95,7 +95,7 @@ fn getter<T: Drop>(
     Ok(LaneTake { receiver, pass })
 }
 
-// So many ends that give to the lane of the first: the first and others, for each of which it gives
+// `puts` ends that give to the lane of the first: the first and others, for each of which it gives
 // up a part.
 fn givers<T: Drop>(
     alloc: Global,

@@ -11,10 +11,10 @@ use std::collections::BTreeMap;
 use std::marker::Model;
 use thiserror::Error;
 
-/// So many names an agent has at most.
+/// The maximum number of names at an agent.
 pub const MOST_NAMES: usize = 1024;
 
-/// So many bytes a name has at most.
+/// The maximum length of a name, in bytes.
 pub const LONGEST_NAME: usize = 255;
 
 /// Why a name isn't put.

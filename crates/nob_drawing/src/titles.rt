@@ -10,7 +10,7 @@ use crate::page::Page;
 use crate::{Point, Shape, Style};
 use std::alloc::{AllocError, Global};
 
-// So many: the word for one, or for more.
+// A number of things, by the word for one or that for several.
 fn counted(alloc: Global, number: usize, one: &str, many: &str) -> Result<String, AllocError>
     ensures { IfOk result (λ text. string_bytes text ≡ spec.counted number one.now many.now) }
 {

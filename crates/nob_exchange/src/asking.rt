@@ -11,7 +11,7 @@ use nob_model::Frames;
 use nob_space::{Space, SpaceError};
 use std::alloc::AllocError;
 
-/// So many times in a row a space works at most.
+/// The maximum number of times that a space works in a row.
 pub const MOST_TURNS: u64 = 4096;
 
 // Asks a space to act on an item of a peer: whether it does. Only memory fails it.

@@ -23,7 +23,6 @@ use Rattle.nob_kept.specs.contracts.receipt.Receipt as Receipt
 use Rattle.nob_kept.specs.contracts.seat.Seat as Seat
 use Rattle.nob_kept.specs.contracts.seat.Seat.TheInside as SeatInside
 use Rattle.nob_model.specs.contracts.Message as Message
-use Rattle.nob_model.specs.contracts.Run as Run
 use Rattle.nob_model_session.proofs.entry.Frames.TheSendSync as frames
 use Rattle.nob_model_types.specs.contracts.answer.Answer as Answer
 use Rattle.nob_model_types.specs.contracts.event.Event as Event
@@ -46,18 +45,15 @@ use Rattle.nob_space_calls.specs.contracts.calls.Calls.TheInside as CallsInside
 use Rattle.nob_space_calls.specs.contracts.ready.Ready as Ready
 use Rattle.nob_space_calls.specs.contracts.ready.Ready.TheInside as ReadyInside
 use Rattle.nob_slots.proofs.numbers.Numbers.TheSendSync as space_numbers
-use Rattle.nob_space_jobs.specs.contracts.jobs.Jobs as Jobs
-use Rattle.nob_space_jobs.specs.contracts.jobs.Jobs.TheInside as JobsInside
-use Rattle.nob_space_jobs.specs.contracts.running.Running as Running
-use Rattle.nob_space_jobs.specs.contracts.running.Running.TheInside as RunningInside
-use Rattle.nob_space_jobs.proofs.lines.Lines.TheSendSync as ready_lines
-use Rattle.nob_space_jobs.specs.contracts.ready.ReadyJobs as ReadyJobs
-use Rattle.nob_space_jobs.specs.contracts.ready.ReadyJobs.TheInside as ReadyJobsInside
+use Rattle.nob_queues.proofs.queues.Queues.TheSendSync as queues
+use Rattle.nob_space_messages.proofs.in_line.InLine.TheSendSync as in_line
+use Rattle.nob_space_messages.proofs.lines.Lines.TheSendSync as lines
+use Rattle.nob_space_messages.specs.contracts.entry.Entry as Entry
+use Rattle.nob_space_messages.specs.contracts.messages.Messages as Messages
+use Rattle.nob_space_messages.specs.contracts.messages.Messages.TheInside as MessagesInside
+use Rattle.nob_space_messages.specs.contracts.ready.Ready as ReadyJobs
+use Rattle.nob_space_messages.specs.contracts.waits.Waits as Waits
 use Rattle.nob_space_state.specs.contracts.parts.Parts as Parts
-use Rattle.nob_space_waiting.proofs.lines.Lines.TheSendSync as waiting_lines
-use Rattle.nob_space_waiting.specs.contracts.entry.Entry as Entry
-use Rattle.nob_space_waiting.specs.contracts.waiting.Waiting as Waiting
-use Rattle.nob_space_waiting.specs.contracts.waiting.Waiting.TheInside as WaitingInside
 use Rattle.nob_table.proofs.table.ObjectTable.TheSendSync as table
 use Rattle.nob_kept.specs.contracts.summary.PeerTally as PeerTally
 use Rattle.nob_kept.specs.contracts.summary.Record as Record
@@ -81,42 +77,24 @@ message_send = (let T = Message.the_type in recorded_send (Struct (shape T)) T.D
 entry_send : IsSend Entry.the_row
 entry_send = (let T = Entry.the_type in recorded_send (Struct (shape T)) T.D T.to T.to_one (struct_send (shape T) (message_fields_send, (search sendable depth 30, tt))))
 
-waiting_inside_send : IsSend WaitingInside.the_row
-waiting_inside_send =
-    let T = WaitingInside.the_type in
+waits_send : IsSend (Struct (shape Waits.the_type))
+waits_send =
+    struct_send (shape Waits.the_type)
+    (space_numbers.the_send, (lines.the_send, (search sendable depth 30, (search sendable, (search sendable, tt)))))
+
+ready_jobs_send : IsSend (Struct (shape ReadyJobs.the_type))
+ready_jobs_send =
+    struct_send (shape ReadyJobs.the_type)
+    (in_line.the_field_send, (space_numbers.the_send, (search sendable, (search sendable, tt))))
+
+messages_inside_send : IsSend MessagesInside.the_row
+messages_inside_send =
+    let T = MessagesInside.the_type in
     recorded_send (Struct (shape T)) T.D T.to T.to_one (struct_send (shape T)
-    (search sendable depth 30, (slots.the_send Entry.the_row entry_send, (space_numbers.the_send, (waiting_lines.the_send, (search sendable depth 30, (search sendable, (search sendable, tt))))))))
+    (queues.the_send Entry.the_row entry_send, (waits_send, (ready_jobs_send, tt))))
 
-waiting_send : IsSend Waiting.the_row
-waiting_send = view_send WaitingInside.the_row _ _ _ _ waiting_inside_send
-
-run_send : IsSend Run.the_row
-run_send = (let T = Run.the_type in recorded_send (Struct (shape T)) T.D T.to T.to_one (struct_send (shape T) (search (crosses, sendable) depth 30, (message_fields_send, tt))))
-
-running_inside_send : IsSend RunningInside.the_row
-running_inside_send =
-    let T = RunningInside.the_type in
-    recorded_send (Struct (shape T)) T.D T.to T.to_one (struct_send (shape T) (slots.the_send Run.the_row run_send, tt))
-
-running_send : IsSend Running.the_row
-running_send = view_send RunningInside.the_row _ _ _ _ running_inside_send
-
-ready_jobs_inside_send : IsSend ReadyJobsInside.the_row
-ready_jobs_inside_send =
-    let T = ReadyJobsInside.the_type in
-    recorded_send (Struct (shape T)) T.D T.to T.to_one (struct_send (shape T)
-    (slots.the_send Message.the_row message_send, (ready_lines.the_field_send, (space_numbers.the_send, (search sendable, (search sendable, tt))))))
-
-ready_jobs_send : IsSend ReadyJobs.the_row
-ready_jobs_send = view_send ReadyJobsInside.the_row _ _ _ _ ready_jobs_inside_send
-
-jobs_inside_send : IsSend JobsInside.the_row
-jobs_inside_send =
-    let T = JobsInside.the_type in
-    recorded_send (Struct (shape T)) T.D T.to T.to_one (struct_send (shape T) (ready_jobs_send, (running_send, tt)))
-
-jobs_send : IsSend Jobs.the_row
-jobs_send = view_send JobsInside.the_row _ _ _ _ jobs_inside_send
+messages_send : IsSend Messages.the_row
+messages_send = view_send MessagesInside.the_row _ _ _ _ messages_inside_send
 
 ready_inside_send : IsSend ReadyInside.the_row
 ready_inside_send =
@@ -140,7 +118,7 @@ parts_send =
     let sessions = Vec-send Session.the_row session.the_send in
     let numbers : AllSend (u64-field.row ∷ u64-field.row ∷ []) = search sendable in
     struct_send (shape Parts.the_type)
-    (search sendable depth 30, (sessions, (table.the_send, (dirty.the_send, (pins.the_send, (waiting_send, (jobs_send, (calls_send, numbers))))))))
+    (search sendable depth 30, (sessions, (table.the_send, (dirty.the_send, (pins.the_send, (messages_send, (calls_send, numbers)))))))
 
 space_inside_send : IsSend SpaceInside.the_row
 space_inside_send =

@@ -91,7 +91,7 @@ fn mark_all(marks: &mut Vec<bool>, kept: &Kept, seats: &[Seat]) -> Result<(), Ke
     Ok(())
 }
 
-// So many marks, none of them set. Only memory fails it.
+// `count` marks, none of which is set. Only memory fails it.
 fn unmarked(alloc: Global, count: usize) -> Result<Vec<bool>, AllocError>
     ensures { IfOk result (λ marks. marks.items ≡ replicate count false) }
 {

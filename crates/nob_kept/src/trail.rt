@@ -28,7 +28,7 @@ use nob_space::{Space, SpaceError};
 use nob_trace::Stamped;
 use std::alloc::{AllocError, Global};
 
-/// So many entries has the largest segment.
+/// The number of entries in the largest segment.
 pub(crate) const LARGEST_SIZE: u32 = 1 << 16;
 
 /// The greatest stamp that a caller may have seen.
@@ -43,7 +43,7 @@ pub(crate) struct Trail {
     // How many spaces there are, named by the last of them.
     pub(crate) n: SpaceId,
     pub(crate) keep: Keep,
-    // So many entries has a segment that is full.
+    // The number of entries in a full segment.
     pub(crate) size: u32,
     // The first first. Where all is kept those have bytes that aren't sealed yet, and else none has.
     pub(crate) entries: Past<Stamped>,

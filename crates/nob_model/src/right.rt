@@ -37,13 +37,13 @@ use nob_model_work::{Outstanding, OwnCall, Run, Stage};
 use nob_pickle::Value;
 use std::alloc::{AllocError, Global};
 
-/// So many live objects and no more.
+/// The maximum number of live objects.
 pub const MOST_OBJECTS: usize = 1 << 16;
 
 /// The greatest index, and the greatest number of a call and of a job.
 pub const LAST_NUMBER: u64 = 1 << 48;
 
-/// So many calls that aren't taken and no more.
+/// The maximum number of calls that aren't taken.
 pub const MOST_CALLS: usize = 4096;
 
 /// The greatest hand.

@@ -17,10 +17,10 @@ use nob_model_work::gifts::dirties_for;
 use nob_model_work::{Gift, Outstanding, OwnCall, Stage};
 use std::alloc::{AllocError, Global};
 
-/// So many messages and no more.
+/// The maximum number of messages.
 pub const MOST_MESSAGES: usize = 1 << 16;
 
-/// So many surrogates on open sessions and no more.
+/// The maximum number of surrogates on open sessions.
 pub const MOST_SURROGATES: usize = 1 << 16;
 
 // Whether one of these own references isn't live.

@@ -41,7 +41,7 @@ pub struct Ending {
 /// What an arriving frame did.
 #[derive(Clone, Copy, Debug, PartialEq, Eq)]
 pub enum Arrived {
-    /// So many items were accepted by it.
+    /// How many items were accepted by it.
     Took(u64),
     /// The end closed.
     Closed(Ending),

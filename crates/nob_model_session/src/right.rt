@@ -16,10 +16,10 @@ use nob_frame::{Frame, FrameKind};
 use nob_ids::{ItemNo, Limits, Reason, SpaceId};
 use std::alloc::{AllocError, Global};
 
-/// So many unacknowledged items and no more before a limited one is refused.
+/// The number of unacknowledged items from which on a limited one is refused.
 pub const QUEUE_LIMIT: usize = 4096;
 
-/// So many accepted items wait at most.
+/// The maximum number of accepted items that wait to be acted on.
 pub const INBOX_LIMIT: usize = 256;
 
 /// What `send` answers.

@@ -21,7 +21,7 @@ use nob_bytes::Bytes;
 use nob_pickle::{Value, Values};
 use std::alloc::{AllocError, Global};
 
-// So many lists may stand in one another.
+// The maximum depth of lists in lists.
 const MOST_LISTS: u32 = 1_000;
 
 /// The value that a text spells: `None` where it spells none, as one in which more than 1,000 lists

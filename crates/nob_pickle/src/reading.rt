@@ -130,7 +130,7 @@ fn list_of<'a>(alloc: Global, levels: u32, rest: Rest<'a>) -> Result<(Value, Res
     Ok((Value::List(values), rest))
 }
 
-/// So many values, one after another.
+/// `count` values, one after another.
 #[cycle(reading)]
 #[tactic(auto, using(crate::proofs::Loop::ends, crate::proofs::Loop::goes_on, crate::proofs::Loop::is_done))]
 fn values_of<'a>(

@@ -11,7 +11,7 @@ use nob_model::{Entry, Event};
 use nob_model_watch::{Heard, heard_by, no_word};
 use std::alloc::{AllocError, Global};
 
-/// So many rows has the table of all spaces that there may be.
+/// The number of rows in the table: one for each pair of spaces that there may be.
 const ROWS: usize = 1024;
 
 // The place of what a space has heard of another.

@@ -9,7 +9,7 @@ use nob_model_types::{Event, WorldStep};
 use nob_world::{World, WorldError};
 use std::alloc::AllocError;
 
-/// So many times a space is asked one thing in a row at most.
+/// The maximum number of times that a space is asked one thing in a row.
 pub const MOST_REPEATS: u64 = 4096;
 
 /// What a space is to be asked.

@@ -11,7 +11,7 @@ use nob_model_types::Outcome;
 use nob_pickle::{Value, Values};
 use std::alloc::{AllocError, Global};
 
-// So many of the last objects are chosen from, mostly.
+// The number of newest objects that are mostly chosen from.
 const LAST_OBJECTS: u64 = 6;
 
 /// One of so many spaces, by one word.

@@ -13,7 +13,7 @@ use crate::{ask_each, repeat_each, round, spaces_in};
 use nob_world::World;
 use std::alloc::{AllocError, Global};
 
-// So many rounds at most: more than any list needs.
+// The maximum number of rounds: more than any list needs.
 const MOST_ROUNDS: u64 = 200;
 
 /// Ends what was begun in a world: rounds until one brings nothing new, 200 at most, and then each

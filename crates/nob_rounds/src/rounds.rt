@@ -25,8 +25,9 @@ pub fn deliver(world: &mut World, number: u64) -> Result<(), AllocError>
     }
 }
 
-/// So many frames arrive in order, the first of which stands behind so many. Only memory fails it.
-/// The caller's condition: the number of the last one is one of 64 bits. It recurses once for each.
+/// `count` frames arrive in order, the first of which stands behind `behind` others. Only memory
+/// fails it. The caller's condition: the number of the last one is one of 64 bits. It recurses once
+/// for each.
 pub fn deliver_each(world: &mut World, behind: u64, count: u64) -> Result<(), AllocError>
     requires { behind + count < 2 ^ 64 }
     ensures entries { OnOk result (spec.DeliveredEach behind count

@@ -12,7 +12,7 @@ use nob_ids::{CallNo, JobNo, SpaceId, WireRep};
 use nob_model_types::{Event, WorldStep};
 use std::alloc::{AllocError, Global};
 
-// So many of the last frames are delivered, mostly.
+// The number of newest frames that are mostly delivered.
 const LAST_FRAMES: u64 = 12;
 
 // The method that is called.

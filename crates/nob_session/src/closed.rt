@@ -50,7 +50,7 @@ impl Closed {
 /// What an arriving frame did.
 #[derive(Debug, Drop)]
 pub enum Arrival {
-    /// So many items were accepted by it.
+    /// How many items were accepted by it.
     Took(u64),
     /// The session ended at this end.
     Closed(Closed),

@@ -64,9 +64,9 @@ fn counts_of(parts: &Parts) -> SpaceCounts
     let live = parts.live();
     let surrogates = parts.table.surrogate_count() as u64;
     let calls = parts.calls.calls_len() as u64;
-    let waiting = parts.waiting.len() as u64;
-    let ready = parts.jobs.ready_len() as u64;
-    let running = parts.jobs.running_len() as u64;
+    let waiting = parts.messages.waiting_len() as u64;
+    let ready = parts.messages.ready_len() as u64;
+    let running = parts.messages.running_len() as u64;
     let replies = parts.calls.replies_len() as u64;
     SpaceCounts {
         live,
@@ -91,16 +91,16 @@ fn held_with(parts: &Parts, other: SpaceId) -> (usize, usize)
 
 // How many messages from a peer wait for their references. A look for each of them.
 fn waiting_from(parts: &Parts, peer: SpaceId) -> usize
-    ensures { result ≡ length (words.messages_from peer parts.now.waiting.items) }
+    ensures { result ≡ length (words.messages_from peer parts.now.messages.waiting.items) }
 {
-    parts.waiting.from(peer).count()
+    parts.messages.waiting_from(peer).count()
 }
 
 // How many ready jobs are of a peer's Calls. A look for each of them.
 fn ready_from(parts: &Parts, peer: SpaceId) -> usize
-    ensures { result ≡ length (words.messages_from peer parts.now.jobs.ready) }
+    ensures { result ≡ length (words.messages_from peer parts.now.messages.jobs.ready) }
 {
-    parts.jobs.ready_from(peer).count()
+    parts.messages.ready_from(peer).count()
 }
 
 // How much of what a space has is with a peer.

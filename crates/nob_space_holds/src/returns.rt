@@ -10,8 +10,7 @@ ghost use Rattle.nob_space_holds.specs.Returns.{HasLent, GivesBack, lent_from};
 use nob_ids::{JobNo, SpaceId, WireRep};
 use nob_item::Item;
 use nob_model::{Loan, Message, RefCopy};
-use nob_space_jobs::Jobs;
-use nob_space_waiting::Waiting;
+use nob_space_messages::Messages;
 use nob_table::{ObjectTable, Part};
 
 /// Gives back one loan of a reference. A look-up.
@@ -77,48 +76,50 @@ pub fn give_back_message(table: &mut ObjectTable, me: SpaceId, message: &Message
 }
 
 // Gives back what the job of this number has lent, if it runs.
-fn give_back_job(table: &mut ObjectTable, me: SpaceId, job: JobNo, jobs: &Jobs)
+fn give_back_job(table: &mut ObjectTable, me: SpaceId, job: JobNo, messages: &Messages)
     requires { HasLent table.old (flat_map (λ run. loans_of me run.message)
-        (filter (is_run job) jobs.now.running)) }
+        (filter (is_run job) messages.now.jobs.running)) }
     ensures { GivesBack table.old table.new
-        (flat_map (λ run. loans_of me run.message) (filter (is_run job) jobs.now.running)) }
+        (flat_map (λ run. loans_of me run.message) (filter (is_run job) messages.now.jobs.running)) }
 {
-    let Some(run) = jobs.find_run(job) else {
+    let Some(message) = messages.find_run(job) else {
         return;
     };
-    give_back_message(table, me, &run.message);
+    give_back_message(table, me, message);
 }
 
 /// Ends the job of this number, if it runs: what it has lent is given back. Logarithmic in the jobs
 /// that run, and linear in what it has lent.
-pub fn end_job(table: &mut ObjectTable, jobs: &mut Jobs, me: SpaceId, job: JobNo)
+pub fn end_job(table: &mut ObjectTable, messages: &mut Messages, me: SpaceId, job: JobNo)
     requires { HasLent table.old (flat_map (λ run. loans_of me run.message)
-        (filter (is_run job) jobs.old.running)) }
+        (filter (is_run job) messages.old.jobs.running)) }
     ensures back { GivesBack table.old table.new
-        (flat_map (λ run. loans_of me run.message) (filter (is_run job) jobs.old.running)) }
-    ensures ended { jobs.new.running ≡ filter (λ run. not (is_run job run)) jobs.old.running }
-    ensures ready { jobs.new.ready ≡ jobs.old.ready }
+        (flat_map (λ run. loans_of me run.message) (filter (is_run job) messages.old.jobs.running)) }
+    ensures ended { messages.new.jobs.running
+        ≡ filter (λ run. not (is_run job run)) messages.old.jobs.running }
+    ensures ready { messages.new.jobs.ready ≡ messages.old.jobs.ready }
+    ensures waiting { messages.new.waiting ≡ messages.old.waiting }
 {
-    give_back_job(table, me, job, jobs);
-    jobs.end(job);
+    give_back_job(table, me, job, messages);
+    messages.end(job);
 }
 
 // Gives back what the messages that wait from a space have lent.
-fn give_back_waiting(table: &mut ObjectTable, me: SpaceId, peer: SpaceId, waiting: &Waiting)
-    requires { HasLent table.old (lent_from me peer waiting.now.items) }
-    ensures { GivesBack table.old table.new (lent_from me peer waiting.now.items) }
+fn give_back_waiting(table: &mut ObjectTable, me: SpaceId, peer: SpaceId, messages: &Messages)
+    requires { HasLent table.old (lent_from me peer messages.now.waiting.items) }
+    ensures { GivesBack table.old table.new (lent_from me peer messages.now.waiting.items) }
 {
-    for message in waiting.from(peer) {
+    for message in messages.waiting_from(peer) {
         give_back_message(table, me, message);
     }
 }
 
 // Gives back what the ready jobs of a space have lent.
-fn give_back_ready(table: &mut ObjectTable, me: SpaceId, peer: SpaceId, jobs: &Jobs)
-    requires { HasLent table.old (lent_from me peer jobs.now.ready) }
-    ensures { GivesBack table.old table.new (lent_from me peer jobs.now.ready) }
+fn give_back_ready(table: &mut ObjectTable, me: SpaceId, peer: SpaceId, messages: &Messages)
+    requires { HasLent table.old (lent_from me peer messages.now.jobs.ready) }
+    ensures { GivesBack table.old table.new (lent_from me peer messages.now.jobs.ready) }
 {
-    for message in jobs.ready_from(peer) {
+    for message in messages.ready_from(peer) {
         give_back_message(table, me, message);
     }
 }
@@ -127,27 +128,35 @@ fn give_back_ready(table: &mut ObjectTable, me: SpaceId, peer: SpaceId, jobs: &J
 /// them and what they have lent.
 pub fn throw_waiting_away(
     table: &mut ObjectTable,
-    waiting: &mut Waiting,
+    messages: &mut Messages,
     me: SpaceId,
     peer: SpaceId,
 )
-    requires { HasLent table.old (lent_from me peer waiting.old.items) }
-    ensures back { GivesBack table.old table.new (lent_from me peer waiting.old.items) }
-    ensures left { waiting.new.items ≡ filter (is_not_from peer) waiting.old.items }
-    ensures awaited { waiting.new.awaited ≡ waiting.old.awaited }
+    requires { HasLent table.old (lent_from me peer messages.old.waiting.items) }
+    ensures back { GivesBack table.old table.new (lent_from me peer messages.old.waiting.items) }
+    ensures left { messages.new.waiting.items
+        ≡ filter (is_not_from peer) messages.old.waiting.items }
+    ensures awaited { messages.new.waiting.awaited ≡ messages.old.waiting.awaited }
+    ensures jobs { messages.new.jobs ≡ messages.old.jobs }
 {
-    give_back_waiting(table, me, peer, waiting);
-    waiting.drop_from(peer);
+    give_back_waiting(table, me, peer, messages);
+    messages.drop_waiting(peer);
 }
 
 /// Throws the ready jobs of a space away: what they have lent is given back. Linear in them and
 /// what they have lent.
-pub fn throw_ready_away(table: &mut ObjectTable, jobs: &mut Jobs, me: SpaceId, peer: SpaceId)
-    requires { HasLent table.old (lent_from me peer jobs.old.ready) }
-    ensures back { GivesBack table.old table.new (lent_from me peer jobs.old.ready) }
-    ensures left { jobs.new.ready ≡ filter (is_not_from peer) jobs.old.ready }
-    ensures running { jobs.new.running ≡ jobs.old.running }
+pub fn throw_ready_away(
+    table: &mut ObjectTable,
+    messages: &mut Messages,
+    me: SpaceId,
+    peer: SpaceId,
+)
+    requires { HasLent table.old (lent_from me peer messages.old.jobs.ready) }
+    ensures back { GivesBack table.old table.new (lent_from me peer messages.old.jobs.ready) }
+    ensures left { messages.new.jobs.ready ≡ filter (is_not_from peer) messages.old.jobs.ready }
+    ensures running { messages.new.jobs.running ≡ messages.old.jobs.running }
+    ensures waiting { messages.new.waiting ≡ messages.old.waiting }
 {
-    give_back_ready(table, me, peer, jobs);
-    jobs.drop_from(peer);
+    give_back_ready(table, me, peer, messages);
+    messages.drop_ready(peer);
 }

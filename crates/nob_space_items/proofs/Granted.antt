@@ -31,7 +31,7 @@ use Rattle.nob_space_state.proofs.Claiming.{times_lent}
 use Rattle.nob_space_holds.proofs.Counted.{times_both}
 use Rattle.nob_space_holds.proofs.Returned.{times_one}
 use Rattle.nob_space_items.specs.Fronts.{IsFront}
-use Rattle.nob_space_waiting.specs.Waiting.{is_due, waits_for, granted_copy, granted_message, due_to, due_to_all}
+use Rattle.nob_space_messages.specs.Waiting.{is_due, waits_for, granted_copy, granted_message, due_to, due_to_all}
 use Rattle.nob_space_items.proofs.Owners.{awaited, turned}
 
 -- ---- lists

@@ -17,8 +17,8 @@ use Rattle.nob_model_types.specs.Turns.{turns, is_own, is_usable, is_lost, is_pe
 use Rattle.nob_model_work.specs.declared.work.Outstanding.{Outstanding}
 use Rattle.nob_model_work.specs.Work.{after_message, call_after_reply, is_none_of, make_ready, make_reply, wait, with_calls}
 use Rattle.nob_model_history.proofs.Turning.{pending_waits, same_ref, waiting_stands}
-use Rattle.nob_space_waiting.specs.Waiting.{WaitingList, due_to, due_to_all, granted_message, is_awaited, is_due, is_due_in, waits_for, IsNew}
-use Rattle.nob_space_waiting.proofs.Granted.{count_cons, due_other, none_due}
+use Rattle.nob_space_messages.specs.Waiting.{WaitingList, due_to, due_to_all, granted_message, is_awaited, is_due, is_due_in, waits_for, IsNew}
+use Rattle.nob_space_messages.proofs.Granted.{count_cons, due_other, none_due}
 use Rattle.nob_space_state.specs.Stands.{AreAwaited}
 use Rattle.nob_space_items.specs.Placing.{IsMessage}
 

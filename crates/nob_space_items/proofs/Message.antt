@@ -51,7 +51,7 @@ use Rattle.nob_model.specs.Lists.{IsRightDeed}
 use Rattle.nob_model.specs.Right.{right_act, act_of, right_after}
 use Rattle.nob_model.proofs.Made.{loans_made}
 use Rattle.nob_model.proofs.Premises.{front_item, in_turn, took_turns}
-use Rattle.nob_space_waiting.specs.Waiting.{is_due_in}
+use Rattle.nob_space_messages.specs.Waiting.{is_due_in}
 use Rattle.nob_space_state.specs.Parts.{State}
 use Rattle.nob_space_state.specs.Looks.{has_closed, number_with}
 use Rattle.nob_space_holds.specs.Shows.{far_state}

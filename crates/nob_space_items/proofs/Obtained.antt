@@ -31,7 +31,7 @@ use Rattle.nob_space_state.specs.Parts.{State}
 use Rattle.nob_space_holds.specs.Shows.{TableShows}
 use Rattle.nob_space_state.specs.Stands.{Stands, AreAwaited}
 use Rattle.nob_space_items.specs.Fronts.{IsFront}
-use Rattle.nob_space_waiting.specs.Waiting.{granted_message, due_to_all, is_awaited, is_due_in}
+use Rattle.nob_space_messages.specs.Waiting.{granted_message, due_to_all, is_awaited, is_due_in}
 use Rattle.nob_space_items.specs.Lending.{CanLend, Lends}
 use Rattle.nob_space_items.proofs.Bounded.{lent_low}
 use Rattle.nob_space_items.proofs.Crowds.{few_messages}

@@ -45,7 +45,7 @@ use Rattle.nob_model.specs.Right.{own_ref}
 use Rattle.nob_model.proofs.Made.{loans_made}
 use Rattle.nob_space_state.specs.Parts.{State}
 use Rattle.nob_space_holds.specs.Shows.{TableShows, behind, far_state}
-use Rattle.nob_space_waiting.specs.Waiting.{is_awaited}
+use Rattle.nob_space_messages.specs.Waiting.{is_awaited}
 use Rattle.nob_space_state.specs.Stands.{Stands, AreAwaited, bundle}
 use Rattle.nob_space_state.proofs.Awaited.{same_lost}
 use Rattle.nob_space_holds.proofs.Shows.{one_row}

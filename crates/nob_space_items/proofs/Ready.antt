@@ -53,7 +53,7 @@ use Rattle.nob_model.proofs.Premises.{no_fault}
 use Rattle.nob_model_acting.specs.Sending.{is_gone}
 use Rattle.nob_space_state.specs.Parts.{State}
 use Rattle.nob_space_state.specs.Looks.{end_with, has_closed, is_closed_end}
-use Rattle.nob_space_waiting.specs.Waiting.{WaitingList, is_awaited, is_due_in, IsNew}
+use Rattle.nob_space_messages.specs.Waiting.{WaitingList, is_awaited, is_due_in, IsNew}
 use Rattle.nob_space_state.specs.Stands.{Stands, AreAwaited}
 use Rattle.nob_space_state.proofs.Rows.{distinct_filtered}
 use Rattle.nob_space_state.proofs.Told.{own_is}

@@ -10,7 +10,7 @@ use Rattle.nob_table.specs.Table.{Table}
 use Rattle.nob_model_types.specs.declared.message.Message.{Message}
 use Rattle.nob_model_work.specs.Work.{after_message}
 use Rattle.nob_model_history.specs.Holds.{loans_of}
-use Rattle.nob_space_waiting.specs.Waiting.{is_awaited, is_due_in}
+use Rattle.nob_space_messages.specs.Waiting.{is_awaited, is_due_in}
 use Rattle.nob_space_state.specs.Parts.{State}
 use Rattle.nob_space_items.specs.Asking.{AsksFor, CanAsk, CanSendAll, SendsAll}
 use Rattle.nob_space_items.specs.Lending.{CanLend, Lends}

@@ -45,15 +45,15 @@ pub(crate) fn grow(parts: &mut Parts, reps: &[WireRep], copies: usize) -> Result
     ensures same { Grows (state_of parts.old) (state_of parts.new) }
     ensures sessions { OnOk result (HaveRoom (length reps.now) parts.new.sessions.items reps.now) }
     ensures table { OnOk result (length reps.now ≤ parts.new.table.surrogate_room) }
-    ensures waiting { OnOk result (copies < parts.new.waiting.room) }
-    ensures ready { OnOk result (0 < parts.new.jobs.ready_room) }
+    ensures waiting { OnOk result (copies < parts.new.messages.waiting.room) }
+    ensures ready { OnOk result (0 < parts.new.messages.jobs.ready_room) }
     ensures replies { OnOk result (0 < parts.new.calls.replies_room) }
     ensures here { parts.new.here ≡ parts.old.here }
 {
     parts.table.reserve(0, reps.len())?;
     grow_sessions(&mut parts.sessions, reps, reps.len())?;
-    parts.waiting.reserve(copies)?;
-    parts.jobs.reserve_ready(1)?;
+    parts.messages.reserve_waiting(copies)?;
+    parts.messages.reserve_ready(1)?;
     parts.calls.reserve_replies(1)?;
     Ok(())
 }

@@ -91,9 +91,9 @@ fn wanted_refs(parts: &Parts, item: &Item) -> FewRefs
 fn message_count(parts: &Parts) -> u64
     ensures { result ≡ min (acting.messages (state_of parts.now).work) (2 ^ 64 - 1) }
 {
-    let waiting = parts.waiting.len() as u64;
-    let ready = parts.jobs.ready_len() as u64;
-    let running = parts.jobs.running_len() as u64;
+    let waiting = parts.messages.waiting_len() as u64;
+    let ready = parts.messages.ready_len() as u64;
+    let running = parts.messages.running_len() as u64;
     let replies = parts.calls.replies_len() as u64;
     waiting
         .saturating_add(ready)

@@ -185,7 +185,7 @@ pub(crate) fn act_on_dirty_no(parts: &mut Parts, peer: SpaceId, number: ItemNo, 
         Ok(()) => {}
         Err(_) => unreachable!(),
     }
-    parts.waiting.lose(&rep);
+    parts.messages.lose(&rep);
     parts.sessions[peer.place()].take();
 }
 
@@ -205,7 +205,7 @@ pub(crate) fn act_on_dirty_ok(parts: &mut Parts, peer: SpaceId, number: ItemNo, 
         Ok(()) => {}
         Err(_) => unreachable!(),
     }
-    let due = parts.waiting.lend(&rep);
+    let due = parts.messages.lend(&rep);
     lend_times(&mut parts.table, &rep, due);
     parts.sessions[peer.place()].take();
 }

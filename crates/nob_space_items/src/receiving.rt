@@ -1,7 +1,7 @@
 //! Acting on a Call or a Reply once there is room for all.
 
 ghost use Rattle.std.specs.Prelude.{◌≡◌, ◌<◌, ◌≤◌, length};
-ghost use Rattle.nob_space_waiting.specs.Waiting.{IsNew};
+ghost use Rattle.nob_space_messages.specs.Waiting.{IsNew};
 ghost use Rattle.nob_space_state.specs.Parts.{state_of};
 ghost use Rattle.nob_space_items.specs.Receiving.{HasFront, Takes, CanReceive, Receives};
 
@@ -27,10 +27,10 @@ fn take_front(sessions: &mut Vec<Session>, peer: SpaceId)
 // put where it goes.
 pub(crate) fn receive(parts: &mut Parts, message: Message, dirties: Vec<NewDirty>)
     requires can { CanReceive parts.old.here.space (state_of parts.old) message dirties.items }
-    requires waiting { length message.copies < parts.old.waiting.room }
-    requires ready { 0 < parts.old.jobs.ready_room }
+    requires waiting { length message.copies < parts.old.messages.waiting.room }
+    requires ready { 0 < parts.old.messages.jobs.ready_room }
     requires replies { 0 < parts.old.calls.replies_room }
-    requires new { IsNew parts.old.waiting message }
+    requires new { IsNew parts.old.messages.waiting message }
     ensures receives { Receives parts.old.here.space (state_of parts.old)
         (state_of parts.new) message dirties.items }
     ensures here { parts.new.here ≡ parts.old.here }

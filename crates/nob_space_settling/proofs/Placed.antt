@@ -1,5 +1,5 @@
 -- What becomes of a message that is settled: the outstanding work, and what was lent.
-use Rattle.std.proofs.Common.{◌≡◌, ◌≤◌, ℕ, ◌+◌, Bool, true, false, List, [], ◌∷◌, ◌++◌, find, flat_map, Some, if◌then◌else◌, refl, sym, ap, ◌∙◌, arith}
+use Rattle.std.proofs.Common.{◌≡◌, ◌≤◌, ℕ, ◌+◌, Bool, true, false, List, [], ◌∷◌, ◌++◌, find, flat_map, Some, if◌then◌else◌, refl, sym, ap, ◌∙◌, arith, true≢false}
 use Rattle.std.proofs.lemmas.Grind.{flat_map-append}
 use Rattle.std.proofs.lemmas.List.{append-nil}
 use Rattle.nob_ids.specs.declared.wire_rep.WireRep.{WireRep}
@@ -18,14 +18,19 @@ use Rattle.nob_model.proofs.Carrying.{all_found, all_without, all_push}
 use Rattle.nob_model.proofs.Made.{AreFixed}
 use Rattle.nob_space_state.proofs.Firsts.{times_without}
 use Rattle.nob_space_holds.proofs.Counted.{times_both}
-use Rattle.nob_space_settling.specs.Settling.{loans_ended}
+use Rattle.nob_space_settling.specs.Settling.{becomes_job, loans_ended}
 
--- a Call that is settled is ready, or over
-pub call_put : (m : Message) (call target method : ℕ) (value : Value) (lost : Bool) (W : Outstanding) (ready : List Message) (running : List Run) → m.item ≡ items.Call call target method value → ready ≡ (if lost then W.ready else W.ready ++ m ∷ []) → running ≡ W.running
-    → record { waiting = W.waiting; ready = ready; running = running; replies = W.replies; calls = W.calls } ≡ after_settlement m m.item lost W
+-- a Call without a lost reference is a ready job, and what it lent stays lent
+pub job_put : (s : ℕ) (m : Message) (item : Item) (lost : Bool) (W : Outstanding) → becomes_job item lost ≡ true → (loans_ended s m item lost ≡ []) × (after_settlement m item lost W ≡ make_ready m W)
 unfolding after_settlement
-call_put m call target method value true W ready running item is same = (λ i. record { waiting = W.waiting; ready = is i; running = same i; replies = W.replies; calls = W.calls }) ∙ ap (λ (x : Item). after_settlement m x true W) (sym item)
-call_put m call target method value false W ready running item is same = (λ i. record { waiting = W.waiting; ready = is i; running = same i; replies = W.replies; calls = W.calls }) ∙ ap (λ (x : Item). after_settlement m x false W) (sym item)
+job_put s m (items.Call call target method value) true W is = absurd (true≢false (sym is))
+job_put s m (items.Call call target method value) false W is = (refl, refl)
+job_put s m (items.Reply call status value) lost W is = absurd (true≢false (sym is))
+job_put s m (items.Settle item) lost W is = absurd (true≢false (sym is))
+job_put s m (items.Dirty index) lost W is = absurd (true≢false (sym is))
+job_put s m (items.DirtyOk index) lost W is = absurd (true≢false (sym is))
+job_put s m (items.DirtyNo index) lost W is = absurd (true≢false (sym is))
+job_put s m (items.Clean index) lost W is = absurd (true≢false (sym is))
 
 -- a Reply that is settled is ready, as one of status 3 where it is lost
 pub reply_put : (m : Message) (call status : ℕ) (value : Value) (lost : Bool) (W : Outstanding) (replies : List Message) (calls : List OwnCall) → m.item ≡ items.Reply call status value → replies ≡ W.replies ++ (if lost then lost_reply m call else m) ∷ [] → calls ≡ W.calls
@@ -34,17 +39,18 @@ unfolding after_settlement
 reply_put m call status value true W replies calls item is same = (λ i. record { waiting = W.waiting; ready = W.ready; running = W.running; replies = is i; calls = same i }) ∙ ap (λ (x : Item). after_settlement m x true W) (sym item)
 reply_put m call status value false W replies calls item is same = (λ i. record { waiting = W.waiting; ready = W.ready; running = W.running; replies = is i; calls = same i }) ∙ ap (λ (x : Item). after_settlement m x false W) (sym item)
 
--- anything else is over
-pub other_put : (s : ℕ) (m : Message) (item : Item) (lost : Bool) (W : Outstanding) → ((call target method : ℕ) (value : Value) → item ≡ items.Call call target method value → ⊥) → ((call status : ℕ) (value : Value) → item ≡ items.Reply call status value → ⊥)
+-- what is neither a job nor a Reply is over
+pub other_put : (s : ℕ) (m : Message) (item : Item) (lost : Bool) (W : Outstanding) → becomes_job item lost ≡ false → ((call status : ℕ) (value : Value) → item ≡ items.Reply call status value → ⊥)
     → (loans_of s m ≡ loans_ended s m item lost) × (W ≡ after_settlement m item lost W)
 unfolding after_settlement
-other_put s m (items.Call call target method value) lost W no_call no_reply = absurd (no_call call target method value refl)
-other_put s m (items.Reply call status value) lost W no_call no_reply = absurd (no_reply call status value refl)
-other_put s m (items.Settle item) lost W no_call no_reply = (refl, refl)
-other_put s m (items.Dirty index) lost W no_call no_reply = (refl, refl)
-other_put s m (items.DirtyOk index) lost W no_call no_reply = (refl, refl)
-other_put s m (items.DirtyNo index) lost W no_call no_reply = (refl, refl)
-other_put s m (items.Clean index) lost W no_call no_reply = (refl, refl)
+other_put s m (items.Call call target method value) true W no_job no_reply = (refl, refl)
+other_put s m (items.Call call target method value) false W no_job no_reply = absurd (true≢false no_job)
+other_put s m (items.Reply call status value) lost W no_job no_reply = absurd (no_reply call status value refl)
+other_put s m (items.Settle item) lost W no_job no_reply = (refl, refl)
+other_put s m (items.Dirty index) lost W no_job no_reply = (refl, refl)
+other_put s m (items.DirtyOk index) lost W no_job no_reply = (refl, refl)
+other_put s m (items.DirtyNo index) lost W no_job no_reply = (refl, refl)
+other_put s m (items.Clean index) lost W no_job no_reply = (refl, refl)
 
 -- ---- what is lent
 

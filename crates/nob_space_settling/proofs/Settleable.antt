@@ -25,7 +25,7 @@ use Rattle.nob_model_holdings.proofs.Granted.{is_owned, LendsOwned}
 use Rattle.nob_model_holdings.proofs.Holdings.{holds_owned}
 use Rattle.nob_space_state.specs.Parts.{State}
 use Rattle.nob_space_state.specs.Stands.{Stands}
-use Rattle.nob_space_waiting.specs.Waiting.{is_due, is_due_where, is_awaited, waits_for, due_to, due_to_all}
+use Rattle.nob_space_messages.specs.Waiting.{is_due, is_due_where, is_awaited, waits_for, due_to, due_to_all}
 
 -- whether a message may be settled, by the state: each copy whose loan is due is of a reference that isn't awaited
 abbrev pub is_settleable : State → Message → Bool

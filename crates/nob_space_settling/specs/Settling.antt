@@ -14,6 +14,9 @@ use Rattle.nob_table.specs.Table.{standing}
 use Rattle.nob_model_types.specs.declared.message.Message.{Message}
 use Rattle.nob_model_types.specs.Sessions.{is_peer}
 use Rattle.nob_model_history.specs.Holds.{loans_of}
+use Rattle.nob_model_work.specs.declared.work.Outstanding.{Outstanding}
+use Rattle.nob_model_work.specs.Work.{without_first}
+use Rattle.nob_space_messages.specs.Waiting.{WaitingList, is_settleable_in}
 use Rattle.nob_space_state.specs.Looks.{has_closed}
 use Rattle.nob_space_state.specs.Parts.{State}
 
@@ -59,3 +62,18 @@ abbrev pub loans_ended : ℕ → Message → Item → Bool → List WireRep
 loans_ended s message (items.Call call target method value) lost = if lost then loans_of s message else []
 loans_ended s message (items.Reply call status value) lost = if lost then loans_of s message else []
 loans_ended s message (_) lost = loans_of s message
+
+-- whether a message that is settled is a ready job from now on: a Call without a lost reference
+abbrev pub becomes_job : Item → Bool → Bool
+becomes_job (items.Call call target method value) lost = not lost
+becomes_job (_) lost = false
+
+-- the work without the first message that may be settled
+abbrev pub without_settled : WaitingList → Outstanding → Outstanding
+without_settled waiting work = record {
+  waiting = without_first (is_settleable_in waiting) work.waiting;
+  ready = work.ready;
+  running = work.running;
+  replies = work.replies;
+  calls = work.calls;
+}

@@ -16,7 +16,7 @@ pub fn can_settle(parts: &Parts) -> bool
         → result ≡ next.can_settle parts.now.here.space parts.now.here.n
         (history_for parts.now D) }
 {
-    parts.waiting.first_settleable().is_some()
+    parts.messages.first_settleable().is_some()
 }
 
 /// Whether there is a surrogate to give up. A few look-ups: what is held or in transit isn't passed.

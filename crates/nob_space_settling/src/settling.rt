@@ -1,6 +1,6 @@
 //! Settling the messages that wait for their references: Settle.
 
-ghost use Rattle.std.specs.Prelude.{◌≡◌, ◌<◌, ◌≤◌, ℕ, ◌+◌, List, [], ◌∷◌, ◌++◌, if◌then◌else◌, true, None, Some, Ok, vec_len, option_map, IfOk, IfSome, OnOk, OnErr};
+ghost use Rattle.std.specs.Prelude.{◌≡◌, ◌<◌, ◌≤◌, ℕ, ◌+◌, List, [], ◌∷◌, ◌++◌, if◌then◌else◌, true, false, None, Some, Ok, vec_len, find, option_map, IfOk, IfSome, OnOk, OnErr};
 ghost use Rattle.nob_ids.specs.declared.limits.Limits.{Limits as LimitsOf};
 ghost use Rattle.nob_item.specs.Judging.{is_call_number};
 ghost use Rattle.nob_model_session.specs.End.{last_item};
@@ -18,7 +18,9 @@ ghost use Rattle.nob_session.specs.Stands.{is_open_end};
 ghost use Rattle.nob_space_state.specs.Parts.{state_of, with_table, with_work};
 ghost use Rattle.nob_space_holds.specs.Returns.{HasLent, GivesBack};
 ghost use Rattle.nob_space_state.specs.Stands.{StandFor, IsState, Keeps, Did, AnswersOrWants, history_for};
-ghost use Rattle.nob_space_settling.specs.Settling.{is_denied, is_lost_here, has_lost, lost_call, reply_to_lost, given_count, with_note, loans_ended};
+ghost use Rattle.nob_model_types.specs.declared.message.Message.{Message as MessageOf};
+ghost use Rattle.nob_space_messages.specs.Waiting.{is_settleable_in};
+ghost use Rattle.nob_space_settling.specs.Settling.{becomes_job, without_settled, is_denied, is_lost_here, has_lost, lost_call, reply_to_lost, given_count, with_note, loans_ended};
 
 use nob_ids::{CallNo, ItemNo, SpaceId, WireRep};
 use nob_item::Item;
@@ -28,7 +30,6 @@ use nob_pickle::Value;
 use nob_session::Session;
 use nob_space_calls::Calls;
 use nob_space_holds::{encode_note, give_back_message, send_reserved};
-use nob_space_jobs::Jobs;
 use nob_space_state::{Parts, SpaceError};
 use nob_table::{ObjectTable, State};
 use std::alloc::{AllocError, Global};
@@ -161,21 +162,14 @@ fn send_notes(
     Ok(())
 }
 
-// Puts a Call that is settled to the ready jobs, or ends it where a reference of it is lost: then
-// what it lent is given back.
-fn put_call(table: &mut ObjectTable, jobs: &mut Jobs, me: SpaceId, message: Message, lost: bool)
-    requires lent { lost ≡ true → HasLent table.old (loans_of me message) }
-    requires room { 0 < jobs.old.ready_room }
-    ensures back { GivesBack table.old table.new (if lost then loans_of me message else []) }
-    ensures ready { jobs.new.ready ≡ (if lost then jobs.old.ready else jobs.old.ready ++ message ∷
-        []) }
-    ensures running { jobs.new.running ≡ jobs.old.running }
+// Whether a message that is settled is a ready job from now on: a Call without a lost reference.
+fn becomes_job(item: &Item, lost: bool) -> bool
+    ensures { result ≡ becomes_job item.now lost }
 {
-    if lost {
-        give_back_message(table, me, &message);
-        return;
+    match item {
+        Item::Call { .. } => !lost,
+        _ => false,
     }
-    jobs.push(message);
 }
 
 // Puts a Reply that is settled to the ready replies, or one of status 3 where a reference of it is
@@ -215,10 +209,11 @@ fn put_reply(
     calls.push_reply(reply);
 }
 
-// Puts a message that is settled where it goes.
+// Puts a message that is settled and is no job where it goes: a Reply to the ready replies; any other is
+// over, and what it lent is given back.
 fn put_settled(parts: &mut Parts, alloc: Global, message: Message, lost: bool)
+    requires other { becomes_job message.item lost ≡ false }
     requires lent { HasLent parts.old.table (loans_ended parts.old.here.space message message.item lost) }
-    requires ready { 0 < parts.old.jobs.ready_room }
     requires replies { 0 < parts.old.calls.replies_room }
     ensures back { GivesBack parts.old.table parts.new.table
         (loans_ended parts.old.here.space message message.item lost) }
@@ -228,13 +223,6 @@ fn put_settled(parts: &mut Parts, alloc: Global, message: Message, lost: bool)
     ensures here { parts.new.here ≡ parts.old.here }
 {
     match &message.item {
-        Item::Call { .. } => put_call(
-            &mut parts.table,
-            &mut parts.jobs,
-            parts.here.space,
-            message,
-            lost,
-        ),
         Item::Reply { call, .. } => {
             let call = *call;
             put_reply(
@@ -249,6 +237,42 @@ fn put_settled(parts: &mut Parts, alloc: Global, message: Message, lost: bool)
         }
         _ => give_back_message(&mut parts.table, parts.here.space, &message),
     }
+}
+
+// The first message that may be settled goes where it goes, once it is told so to its sender: a
+// Call without a lost reference is a ready job, and stays where it stands.
+fn put_first(parts: &mut Parts, alloc: Global, lost: bool)
+    requires lent { (message : MessageOf)
+        → find (is_settleable_in parts.old.messages.waiting) parts.old.messages.waiting.items
+        ≡ Some message
+        → HasLent parts.old.table (loans_ended parts.old.here.space message message.item lost) }
+    requires ready { 0 < parts.old.messages.jobs.settled_room }
+    requires replies { 0 < parts.old.calls.replies_room }
+    ensures back { (message : MessageOf)
+        → find (is_settleable_in parts.old.messages.waiting) parts.old.messages.waiting.items
+        ≡ Some message
+        → GivesBack parts.old.table parts.new.table
+        (loans_ended parts.old.here.space message message.item lost) }
+    ensures put { (message : MessageOf)
+        → find (is_settleable_in parts.old.messages.waiting) parts.old.messages.waiting.items
+        ≡ Some message
+        → state_of parts.new ≡ with_work (after_settlement message message.item lost
+        (without_settled parts.old.messages.waiting (state_of parts.old).work))
+        parts.old.calls_made parts.old.jobs_made
+        (with_table parts.new.table (state_of parts.old)) }
+    ensures here { parts.new.here ≡ parts.old.here }
+{
+    let Some(message) = parts.messages.first_settleable() else {
+        return;
+    };
+    if becomes_job(&message.item, lost) {
+        parts.messages.settle();
+        return;
+    }
+    let Some(message) = parts.messages.take_settleable() else {
+        unreachable!();
+    };
+    put_settled(parts, alloc, message, lost);
 }
 
 /// Settle: the first message, in order of acting, whose references are all resolved, that is own,
@@ -269,7 +293,7 @@ pub fn settle(parts: &mut Parts, alloc: Global) -> Result<SettledItem, SpaceErro
     ensures err { OnErr result (Keeps parts.old parts.new) }
     ensures here { parts.new.here ≡ parts.old.here }
 {
-    let Some(message) = parts.waiting.first_settleable() else {
+    let Some(message) = parts.messages.first_settleable() else {
         return Err(SpaceError::Refused(Refusal::Nothing));
     };
     let peer = message.from;
@@ -282,13 +306,10 @@ pub fn settle(parts: &mut Parts, alloc: Global) -> Result<SettledItem, SpaceErro
     }
     let settle = encode_note(alloc, &Item::Settle(item))?;
     let reply = payload_if(alloc, call)?;
-    parts.jobs.reserve_ready(1)?;
+    parts.messages.reserve_settled(1)?;
     parts.calls.reserve_replies(1)?;
     let session = &mut parts.sessions[at];
     send_notes(session, settle, reply)?;
-    let Some(message) = parts.waiting.take_settleable() else {
-        unreachable!();
-    };
-    put_settled(parts, alloc, message, lost);
+    put_first(parts, alloc, lost);
     Ok(SettledItem { peer, item })
 }

@@ -12,7 +12,7 @@ use Rattle.nob_model_types.specs.Messages.{is_not_from}
 use Rattle.nob_model_types.specs.Sessions.{is_peer, closed}
 use Rattle.nob_model_types.specs.Turns.{turns, is_own, is_lost, is_refused}
 use Rattle.nob_model_work.specs.Work.{without_first}
-use Rattle.nob_space_waiting.specs.Waiting.{due_to, due_to_all, is_awaited}
+use Rattle.nob_space_messages.specs.Waiting.{due_to, due_to_all, is_awaited}
 use Rattle.nob_space_state.specs.Stands.{AreAwaited}
 
 -- where neither a session nor the turns for a reference change, it is lost as before

@@ -18,7 +18,7 @@ use Rattle.nob_model.specs.Lists.{AreRightDeeds, IsRightDeed}
 use Rattle.nob_model.specs.Right.{jobs_made, right_after}
 use Rattle.nob_model.proofs.Accepted.{claim_tells}
 use Rattle.nob_model.proofs.Doing.{was_answered}
-use Rattle.nob_space_jobs.specs.Jobs.{IsAbove}
+use Rattle.nob_space_messages.specs.Jobs.{IsAbove}
 use Rattle.nob_space_state.specs.Parts.{State}
 use Rattle.nob_space_state.specs.Stands.{Stands}
 use Rattle.nob_space_state.proofs.Running.{all_filter, all_map}

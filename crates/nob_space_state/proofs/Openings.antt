@@ -50,7 +50,7 @@ use Rattle.nob_model.proofs.Reopening.{open_peer, open_closed, open_unheld, open
 use Rattle.nob_model.specs.Lists.{IsRightDeed}
 use Rattle.nob_model.specs.Opening.{is_owned_by, holds_any_of, still_held, next_number, right_open}
 use Rattle.nob_model.specs.Opening as opening
-use Rattle.nob_space_waiting.specs.Waiting.{carries_any_of, waits_for, due_to_all, is_awaited}
+use Rattle.nob_space_messages.specs.Waiting.{carries_any_of, waits_for, due_to_all, is_awaited}
 use Rattle.nob_space_holds.specs.Shows.{TableStands, far_state}
 use Rattle.nob_space_holds.proofs.Marked.{used_still}
 use Rattle.nob_space_state.specs.Looks.{has_closed}

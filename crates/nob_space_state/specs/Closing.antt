@@ -22,7 +22,7 @@ use Rattle.nob_model_types.specs.Sessions.{is_peer, closed}
 use Rattle.nob_model_work.specs.declared.work.Outstanding.{Outstanding}
 use Rattle.nob_model_work.specs.Work as work
 use Rattle.nob_model.specs.Lists.{IsRightDeed}
-use Rattle.nob_space_waiting.specs.Waiting.{is_awaited}
+use Rattle.nob_space_messages.specs.Waiting.{is_awaited}
 use Rattle.nob_space_state.specs.Looks.{HaveUsers}
 use Rattle.nob_space_state.specs.declared.parts.Parts.{Parts}
 use Rattle.nob_space_state.specs.Parts.{State}

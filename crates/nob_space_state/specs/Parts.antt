@@ -35,8 +35,8 @@ state_of parts =
       table = parts.table;
       dirty = parts.dirty;
       pins = parts.pins;
-      work = record { waiting = parts.waiting.items; ready = parts.jobs.ready; running = parts.jobs.running; replies = parts.calls.replies; calls = parts.calls.calls };
-      awaited = parts.waiting.awaited;
+      work = record { waiting = parts.messages.waiting.items; ready = parts.messages.jobs.ready; running = parts.messages.jobs.running; replies = parts.calls.replies; calls = parts.calls.calls };
+      awaited = parts.messages.waiting.awaited;
       calls = parts.calls_made;
       jobs = parts.jobs_made;
     }

@@ -63,8 +63,8 @@ pub enum BirthFault {
     /// The session with this peer, the first such, wasn't opened anew: its number is below 2.
     #[error("the session with space {0} wasn't opened anew")]
     Session(SpaceId),
-    /// So many calls and jobs can't have been before: they aren't 0, and above 2^40 for each of the
-    /// earlier sessions, with each peer.
+    /// There can't have been that many calls and jobs before: their number isn't 0, and is above 2^40
+    /// for each of the earlier sessions, with each peer.
     #[error("so many calls and jobs can't have been in the earlier sessions")]
     Earlier,
 }

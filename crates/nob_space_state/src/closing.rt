@@ -34,9 +34,9 @@ impl Parts {
         ensures here { self.new.here ≡ self.old.here }
     {
         let peer = closed.peer();
-        throw_waiting_away(&mut self.table, &mut self.waiting, self.here.space, peer);
-        self.waiting.lose_of(peer);
-        throw_ready_away(&mut self.table, &mut self.jobs, self.here.space, peer);
+        throw_waiting_away(&mut self.table, &mut self.messages, self.here.space, peer);
+        self.messages.lose_of(peer);
+        throw_ready_away(&mut self.table, &mut self.messages, self.here.space, peer);
         self.table.close(peer);
         unlist_all(
             &mut self.table,

@@ -91,23 +91,23 @@ impl Parts {
         ensures fits { IfOk result (λ fate. fate ≡ ReplyFate.HandedOn
             → Fits (words.value_of outcome.now)) }
         // A reply is dropped without memory.
-        ensures dropped { (run : RunOf) → find (is_run job) self.old.jobs.running ≡ Some run
+        ensures dropped { (run : RunOf) → find (is_run job) self.old.messages.jobs.running ≡ Some run
             → has_ended self.old.sessions.items run.message.from run.message.session ≡ true
             → result ≡ Ok ReplyFate.Dropped }
         ensures err { OnErr result (Keeps self.old self.new) }
         ensures here { self.new.here ≡ self.old.here }
     {
-        let Some(run) = self.jobs.find_run(job) else {
+        let Some(message) = self.messages.find_run(job) else {
             return Err(SpaceError::Refused(Refusal::NoJob));
         };
-        let client = run.message.from;
-        let session = run.message.session;
-        let call = match &run.message.item {
+        let client = message.from;
+        let session = message.session;
+        let call = match &message.item {
             Item::Call { call, .. } => *call,
             _ => unreachable!(),
         };
         if self.has_ended(client, session) {
-            end_job(&mut self.table, &mut self.jobs, self.here.space, job);
+            end_job(&mut self.table, &mut self.messages, self.here.space, job);
             return Ok(ReplyFate::Dropped);
         }
         let unit = Value::Unit;
@@ -129,7 +129,7 @@ impl Parts {
             Kind::Limited,
             reps.as_slice(),
         )?;
-        end_job(&mut self.table, &mut self.jobs, self.here.space, job);
+        end_job(&mut self.table, &mut self.messages, self.here.space, job);
         keep_all(&mut self.table, reps.as_slice());
         Ok(ReplyFate::HandedOn)
     }

@@ -24,9 +24,9 @@ impl Parts {
         ensures low { OnOk result (self.now.jobs_made < right.last_number) }
         ensures answer { AnswersOrWants (λ job. answers.Job job) result
             (right.claim_of self.now.jobs_made
-            (find (candidates.is_free (state_of self.now).work) self.now.jobs.ready)) }
+            (find (candidates.is_free (state_of self.now).work) self.now.messages.jobs.ready)) }
     {
-        let Some(message) = self.jobs.first_free() else {
+        let Some(message) = self.messages.first_free() else {
             return Err(SpaceError::Refused(Refusal::Nothing));
         };
         if self.jobs_made >= LAST_NUMBER {
@@ -61,8 +61,8 @@ impl Parts {
         ensures here { self.new.here ≡ self.old.here }
     {
         let job = self.next_job()?;
-        self.jobs.reserve_running(1)?;
-        self.jobs.claim(job.job);
+        self.messages.reserve_running(1)?;
+        self.messages.claim(job.job);
         self.jobs_made += 1;
         Ok(job)
     }

@@ -143,8 +143,8 @@ impl Parts {
     {
         Backlog {
             calls: self.calls.calls_len() as u64,
-            ready: self.jobs.ready_len() as u64,
-            running: self.jobs.running_len() as u64,
+            ready: self.messages.ready_len() as u64,
+            running: self.messages.running_len() as u64,
         }
     }
 }

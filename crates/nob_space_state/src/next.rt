@@ -69,7 +69,7 @@ impl Parts {
         ensures { (limits : LimitsOf) (D : List Deed)
             → StandFor limits self.now D → result ≡ next.can_claim (history_for self.now D) }
     {
-        self.jobs.first_free().is_some()
+        self.messages.first_free().is_some()
     }
 
     /// The least index of a live object that Withdraw would take. A few look-ups: what is held, in

@@ -44,7 +44,7 @@ impl Parts {
         if self.pins.has_of(peer) {
             return Err(Refusal::StillHeld);
         }
-        if self.waiting.carries_any_of(peer) {
+        if self.messages.carries_any_of(peer) {
             return Err(Refusal::StillHeld);
         }
         let place = peer.place();

@@ -16,8 +16,7 @@ use nob_model::Here;
 use nob_pins::PinTable;
 use nob_session::Session;
 use nob_space_calls::Calls;
-use nob_space_jobs::Jobs;
-use nob_space_waiting::Waiting;
+use nob_space_messages::Messages;
 use nob_table::ObjectTable;
 use std::alloc::{AllocError, Global};
 
@@ -35,10 +34,9 @@ pub struct Parts {
     pub dirty: DirtySets,
     /// The pins of what was sent.
     pub pins: PinTable,
-    /// The messages that wait for their references, in order of acting.
-    pub waiting: Waiting,
-    /// The ready jobs, in order of becoming ready, and the jobs that run.
-    pub jobs: Jobs,
+    /// The messages that wait for their references, in order of acting, the ready jobs, in order of
+    /// becoming ready, and the jobs that run.
+    pub messages: Messages,
     /// The calls whose replies aren't taken, and the ready replies.
     pub calls: Calls,
     /// How many calls were made.
@@ -83,8 +81,7 @@ impl Parts {
             table: ObjectTable::begin_at(alloc, here.space, birth.indexes),
             dirty: DirtySets::new(alloc),
             pins: PinTable::new(alloc),
-            waiting: Waiting::new(alloc),
-            jobs: Jobs::new(alloc),
+            messages: Messages::new(alloc),
             calls: Calls::new(alloc),
             calls_made: birth.calls,
             jobs_made: birth.jobs,

@@ -106,7 +106,7 @@ fn spelt_entry(alloc: Global, version: Version, line: &[u8]) -> Result<Stamped, 
     }
 }
 
-// So many entries, whose stamps rise, at the front of lines, and what is left; or R1, R2 or R3.
+// The entries at the front of lines, whose stamps rise, and what is left; or R1, R2 or R3.
 fn entries_at(
     alloc: Global,
     version: Version,

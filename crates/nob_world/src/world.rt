@@ -97,8 +97,8 @@ impl World {
         self.frames.as_slice()
     }
 
-    /// So many spaces, with these limits for all sessions, that did nothing. Only memory fails it.
-    /// The caller's condition: there are 1 to 32. Their sessions are made at once: it costs the
+    /// A world of `n` spaces that did nothing, with these limits for all sessions. Only memory fails
+    /// it. The caller's condition: there are 1 to 32. Their sessions are made at once: it costs the
     /// square of their number.
     pub fn new(alloc: Global, n: u16, limits: Limits) -> Result<World, AllocError>
         requires some { 1 ≤ n }

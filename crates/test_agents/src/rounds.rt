@@ -8,7 +8,7 @@ use nob_pickle::Value;
 use std::alloc::Global;
 use std::sync::Wait;
 
-/// So many rounds are made at most where nothing is lost.
+/// The maximum number of rounds where nothing is lost.
 const MAX_ROUNDS: u32 = 200;
 
 /// What came of a run.

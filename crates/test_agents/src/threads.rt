@@ -11,7 +11,7 @@ use std::sync::Wait;
 use std::sync::atomic::{AtomicBool, Ordering};
 use std::thread::{self, Threads};
 
-/// So many rounds the first space makes at most.
+/// The maximum number of rounds of the first space.
 const MAX_ROUNDS: u32 = 1_000_000;
 
 /// What came of a run in two threads.

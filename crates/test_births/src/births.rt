@@ -14,10 +14,10 @@ fn later() -> Birth {
     }
 }
 
-/// So many indexes, calls and jobs there are at most.
+/// The greatest number of an index, a call or a job.
 const LAST: u64 = 281_474_976_710_656;
 
-/// So many calls and jobs a session has at most.
+/// The maximum number of calls and jobs in a session.
 const MOST_A_SESSION: u64 = 1_099_511_627_776;
 
 // Writes what is said of births that are in range only just, or only just not.

@@ -10,10 +10,10 @@ use nob_pickle::Value;
 use nob_space::{Space, SpaceError};
 use std::alloc::AllocError;
 
-/// So many moves the way has.
+/// The number of moves on the way.
 pub const MOVES: u32 = 18;
 
-// So often a space gives the object back, and takes a job, at most.
+// The maximum number of times that a space gives the object back, or takes a job.
 const TIMES: u32 = 4;
 
 /// What is known on the way.

@@ -12,10 +12,10 @@ use nob_pickle::Value;
 use nob_space::{CallResult, Space, SpaceError};
 use std::alloc::AllocError;
 
-// So often two spaces carry to and fro, and so often sessions are tried.
+// How often two spaces carry to and fro, and how often sessions are tried.
 const TIMES: u32 = 4;
 
-// So many objects a space withdraws at most.
+// The maximum number of objects that a space withdraws.
 const MOST: u32 = 16;
 
 // Carries between two spaces, to and fro.

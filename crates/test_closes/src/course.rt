@@ -13,7 +13,7 @@ use std::alloc::AllocError;
 /// A close: where, and of which session.
 #[derive(Clone, Copy)]
 pub struct Cut {
-    /// So many steps of the script stand before it.
+    /// How many steps of the script stand before it.
     pub place: usize,
     /// The space that is asked to close.
     pub space: SpaceId,
@@ -33,7 +33,7 @@ pub struct Opened {
 /// How far a script has come.
 #[derive(Drop)]
 pub struct Course {
-    /// So many steps were made, the close and what comes of it aside.
+    /// How many steps were made, the close and what comes of it aside.
     pub made: usize,
     /// Whether the close was made, and the session was open before it.
     pub is_cut: bool,

@@ -11,10 +11,10 @@ use nob_world::{World, WorldError};
 use std::alloc::{AllocError, Global};
 use std::io;
 
-// So many lists are tried.
+// The number of lists that are tried.
 const LISTS: u64 = 200;
 
-// So many steps a list has.
+// The number of steps in a list.
 const STEPS: u64 = 400;
 
 // What is said of a list.

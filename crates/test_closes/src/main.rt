@@ -26,7 +26,7 @@ use std::io::Read;
 use std::process::ExitCode;
 use std::{env, io};
 
-// So many rounds follow a script.
+// The number of rounds behind a script.
 const ROUNDS: u32 = 10;
 
 // What is said of a run.

@@ -55,7 +55,7 @@ impl Model for World {
 }
 
 impl World {
-    // So many spaces with these limits, which did nothing.
+    // A world of `n` spaces with these limits, which did nothing.
     fn new(alloc: Global, n: SpaceId, limits: Limits) -> World
         ensures { result ≡ spec.new_world n limits }
     {

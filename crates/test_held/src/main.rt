@@ -10,7 +10,7 @@ use rounds::round;
 use std::alloc::Global;
 use std::process::ExitCode;
 
-// So many rounds, and so many items in each.
+// The number of rounds, and of items in each.
 const ROUNDS: u32 = 1250;
 
 const ITEMS: u32 = 8;

@@ -5,7 +5,7 @@ use nob_model_session::Kind;
 use nob_session::{Session, SessionError};
 use std::alloc::Global;
 
-/// So many items of one byte go from an end to the other: how many were taken there.
+/// `items` items of one byte go from an end to the other: how many were taken there.
 pub fn round(
     alloc: Global,
     items: u32,

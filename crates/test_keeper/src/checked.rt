@@ -13,7 +13,7 @@ use std::alloc::Global;
 use std::sync::Wait;
 use std::thread::Threads;
 
-/// So many entries has a segment.
+/// The number of entries in a segment.
 const SIZE: u32 = 4;
 
 /// The first space exports an object, and is called by the second; two threads hold the object once

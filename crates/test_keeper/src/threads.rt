@@ -11,10 +11,10 @@ use std::alloc::Global;
 use std::sync::Wait;
 use std::thread::{self, Threads};
 
-// So many times each of two threads holds an object once more and gives that back.
+// How often each of two threads holds an object once more and gives that back.
 const TIMES: usize = 1000;
 
-// So many looks at the space are made before a session is closed for which another thread waits.
+// The number of looks at the space before a session is closed that another thread waits for.
 const LOOKS: usize = 1000;
 
 /// What one thread leaves: its seat, and whether all its calls were answered as they must be.

@@ -10,7 +10,7 @@ use nob_space::{Space, SpaceError};
 use nob_world::World;
 use std::alloc::{AllocError, Global};
 
-// So many calls, and so many objects, are asked about.
+// The number of calls, and of objects, that are asked about.
 const MOST_ASKED: u64 = 4;
 
 /// Whether each space of a world whose entries these are says the same as the definitions: what it

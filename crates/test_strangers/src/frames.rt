@@ -16,7 +16,7 @@ pub fn random_byte(words: &mut Words) -> u8 {
     (words.below(256) % 256) as u8
 }
 
-/// So many random bytes.
+/// `count` random bytes.
 pub fn random_bytes(alloc: Global, words: &mut Words, count: u64) -> Result<Vec<u8>, AllocError> {
     let mut bytes = Vec::new(alloc);
     for _ in 0..count {

@@ -13,7 +13,7 @@ use nob_rounds::Words;
 use nob_space::{Space, SpaceError};
 use std::alloc::{AllocError, Global};
 
-// So many spaces there are; the first one isn't a stranger.
+// The number of spaces; the first one isn't a stranger.
 const SPACES: u16 = 4;
 
 /// What a space among strangers did.
@@ -24,7 +24,7 @@ pub struct Life {
     limits: Limits,
     // Whether its stranger sends what may well be in its place, and it is busy with that.
     is_friendly: bool,
-    // So many of the spaces it has to do with.
+    // The number of spaces that it has to do with.
     reach: u16,
     // What it did, the newest first.
     entries: Vec<Entry>,

@@ -19,15 +19,15 @@ use std::alloc::{AllocError, Global};
 use std::io;
 use std::process::ExitCode;
 
-// So many bytes a long stream has.
+// The length of a long stream, in bytes.
 const LONG: usize = 100_000;
 
-// So many bytes a stream has in which one is changed, and so many of these there are.
+// The length of a stream in which one byte is changed, and the number of such streams.
 const SHORT: usize = 1_000;
 
 const CHANGED: u64 = 10_000;
 
-// So many frames come to one space.
+// The number of frames that come to one space.
 const FRAMES_OF_A_LIFE: u64 = 25;
 
 fn main(rt: HostRuntime) -> ExitCode {

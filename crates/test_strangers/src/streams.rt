@@ -135,7 +135,7 @@ fn same_count(frames: &[Frame], others: &[Frame]) -> Option<usize> {
     Some(frames.len())
 }
 
-/// So many bytes of frames, one after the other; the last may be cut. Only memory fails it.
+/// `count` bytes of frames, one after the other; the last may be cut. Only memory fails it.
 pub fn frames_of(alloc: Global, words: &mut Words, count: usize) -> Result<Vec<u8>, AllocError> {
     let mut bytes = Vec::new(alloc);
     for _ in 0..count {
@@ -153,7 +153,7 @@ pub fn frames_of(alloc: Global, words: &mut Words, count: usize) -> Result<Vec<u
     Ok(bytes)
 }
 
-/// So many bytes of frames, one of which is changed. Only memory fails it.
+/// `count` bytes of frames, one of which is changed. Only memory fails it.
 pub fn changed_frames(
     alloc: Global,
     words: &mut Words,
@@ -164,7 +164,7 @@ pub fn changed_frames(
     Ok(bytes)
 }
 
-/// So many bytes of no meaning. Only memory fails it.
+/// `count` bytes of no meaning. Only memory fails it.
 pub fn no_frames(alloc: Global, words: &mut Words, count: usize) -> Result<Vec<u8>, AllocError> {
     random_bytes(alloc, words, count as u64)
 }

@@ -5,7 +5,7 @@ use Rattle.nob_model_types.specs.declared.deed.Deed.{Deed}
 use Rattle.nob_model_types.specs.declared.here.Here.{Here}
 use Rattle.nob_model_types.specs.declared.message.RefCopy.{RefCopy}
 use Rattle.nob_model_acting.specs.Acting.{answer_of_act}
-use Rattle.nob_space_waiting.specs.Waiting.{IsNew}
+use Rattle.nob_space_messages.specs.Waiting.{IsNew}
 use Rattle.nob_space_state.specs.Parts.{state_of}
 use Rattle.nob_space_state.specs.Stands.{Stands}
 use Rattle.nob_space_state.proofs.Passing.{same_space, refused_as, wants_as, after_error}
@@ -83,10 +83,10 @@ receive-requires-clause-new c =
     let st = state_of c.args.parts.now in
     let small : n < 65536 = search rules in
     let reps_are : c.in_ok-wanted.wanted ≡ wanted_refs s n st (counted_in c.args.item) = c.in_ok-wanted.ensures.wanted in
-    subst (λ (copies : List RefCopy). IsNew c.grow.new.parts.waiting (record { from = c.args.peer; session = c.number-session.result; number = c.args.number; item = c.args.item; copies = copies })) (sym c.in_ok-copies.ensures)
-    (subst (λ (session : ℕ). IsNew c.grow.new.parts.waiting (record { from = c.args.peer; session = session; number = c.args.number; item = c.args.item; copies = new_copies s n st (counted_in c.args.item) })) (sym c.number-session.ensures)
+    subst (λ (copies : List RefCopy). IsNew c.grow.new.parts.messages.waiting (record { from = c.args.peer; session = c.number-session.result; number = c.args.number; item = c.args.item; copies = copies })) (sym c.in_ok-copies.ensures)
+    (subst (λ (session : ℕ). IsNew c.grow.new.parts.messages.waiting (record { from = c.args.peer; session = session; number = c.args.number; item = c.args.item; copies = new_copies s n st (counted_in c.args.item) })) (sym c.number-session.ensures)
     (new_ready stands c.args.peer c.args.number c.args.item (c.requires.front c.requires.state.0 D stands) c.requires.message
-    (subst (λ (reps : List WireRep). message_refusal st reps ≡ None) reps_are c.in_ok-wanted.ensures.free) small (state_of c.grow.new.parts) c.grow.ensures.same c.grow.new.parts.waiting refl refl))
+    (subst (λ (reps : List WireRep). message_refusal st reps ≡ None) reps_are c.in_ok-wanted.ensures.free) small (state_of c.grow.new.parts) c.grow.ensures.same c.grow.new.parts.messages.waiting refl refl))
 
 pub returns-clause-answer : goal.returns-clause-answer
 returns-clause-answer c limits D stands =

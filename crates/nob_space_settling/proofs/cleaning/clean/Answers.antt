@@ -86,7 +86,7 @@ returns-in_err-send_note-clause-err c = after_error _ c.from_residual-in_err-sen
           dirty = c.args.parts.now.dirty;
           pins = c.args.parts.now.pins;
           work = (state_of c.args.parts.now).work;
-          awaited = c.args.parts.now.waiting.awaited;
+          awaited = c.args.parts.now.messages.waiting.awaited;
           calls = c.args.parts.now.calls_made;
           jobs = c.args.parts.now.jobs_made;
         }
@@ -106,7 +106,7 @@ returns-clause-stands c limits D stands =
       dirty = c.args.parts.now.dirty;
       pins = c.args.parts.now.pins;
       work = (state_of c.args.parts.now).work;
-      awaited = c.args.parts.now.waiting.awaited;
+      awaited = c.args.parts.now.messages.waiting.awaited;
       calls = c.args.parts.now.calls_made;
       jobs = c.args.parts.now.jobs_made;
     }) (did.Clean c.in-Some.rep ∷ D)) (sym c.place-place.ensures.value)

@@ -10,8 +10,8 @@ use mio::net::{TcpListener, TcpStream};
 use mio::{Events, Interest, Poll, Token};
 use std::collections::{BTreeMap, HashMap};
 use std::io::{self, ErrorKind, Read, Write};
-use std::net::SocketAddr;
-use std::time::Duration;
+use std::net::{Shutdown, SocketAddr};
+use std::time::{Duration, Instant};
 
 pub(crate) const WAKER: Token = Token(0);
 const LISTENER: Token = Token(1);
@@ -27,12 +27,30 @@ const LONGEST_WAIT: Duration = Duration::from_secs(5);
 const SHUNNED: Duration = Duration::from_secs(1);
 /// So much is read of a peer in one turn.
 const PIECE: usize = 64 * 1024;
+/// How long a node that ends waits for its peers to end their connections, too.
+const LINGERS: Duration = Duration::from_millis(200);
+
+/// How many pieces of what a peer sent are read away at once.
+const PIECES: usize = 16;
 
 struct Link {
     wire: Wire,
     is_readable: bool,
     is_writable: bool,
     dial: Option<usize>,
+}
+
+// Reads away what came: whether the other end has ended, too.
+fn has_ended(stream: &mut TcpStream, room: &mut [u8]) -> bool {
+    for _ in 0..PIECES {
+        match stream.read(room) {
+            Ok(0) => return true,
+            Ok(_) => {}
+            Err(error) if is_for_later(&error) => return false,
+            Err(_) => return true,
+        }
+    }
+    false
 }
 
 // A connection over which not both hellos went yet.
@@ -112,13 +130,26 @@ impl Net {
         })
     }
 
+    /// Ends all connections. Where one went while something of the peer's is unread here the system would throw away what the peer
+    /// hasn't read, a bye too: so it is read away until the peer has ended its own end, or for a while.
     pub(crate) fn close(&mut self) {
-        self.links.values_mut().for_each(|link| link.wire.end());
         self.door = None;
-        self.links.clear();
-        self.pending.clear();
         self.listener = None;
+        self.pending.clear();
         self.dials.clear();
+        for link in self.links.values_mut() {
+            link.wire.end();
+            let _ended = link.wire.stream.shutdown(Shutdown::Write);
+        }
+        let end = Instant::now() + LINGERS;
+        loop {
+            self.links.retain(|_, link| !has_ended(&mut link.wire.stream, &mut self.piece));
+            let left = end.saturating_duration_since(Instant::now());
+            if self.links.is_empty() || left.is_zero() {
+                return self.links.clear();
+            }
+            let _slept = self.poll.poll(&mut self.events, Some(left.min(LINGERS / 10)));
+        }
     }
 
     /// When it wants to be turned at the latest.
@@ -207,18 +238,14 @@ impl Net {
         true
     }
 
-    /// Writes what is to be written: whether anything was.
+    /// Writes what is to be written: whether anything was heard of who doesn't read any more.
     pub(crate) fn write(&mut self, engine: &mut Engine, now: Duration) -> bool {
-        let mut did = false;
         let mut broken = Vec::new();
         for (peer, link) in &mut self.links {
             let out = engine.output(*peer);
             while !out.is_empty() && link.is_writable {
                 match link.wire.write(out.left()) {
-                    Ok(count) => {
-                        did = true;
-                        out.advance(count);
-                    }
+                    Ok(count) => out.advance(count),
                     Err(error) if error.kind() == ErrorKind::WouldBlock => link.is_writable = false,
                     Err(error) if error.kind() == ErrorKind::Interrupted => {}
                     Err(_) => {
@@ -228,7 +255,15 @@ impl Net {
                 }
             }
         }
+        let mut did = false;
         for peer in broken {
+            // What had come before is heard all the same: it may say bye. A peer that goes on sending isn't heard for ever.
+            for _ in 0..PIECES {
+                if !self.links.contains_key(&peer) || !self.read_from(peer, engine, now) {
+                    break;
+                }
+                did = true;
+            }
             self.drop_link(peer, engine, now);
         }
         did

@@ -11,6 +11,6 @@ begin_at-requires c = few_indexes c.args.here.space c.args.here.n (life_of c.arg
 
 pub returns : goal.returns
 returns c = record {
-  stands = begins_stands c.args.here.space c.args.here.n c.args.limits (life_of c.args.birth.now) _ (c.in_ok-sessions.ensures {u = tt}).each (c.in_ok-sessions.ensures {u = tt}).begun c.begin_at.ensures.me c.begin_at.ensures.exported c.begin_at.ensures.dirties c.begin_at.ensures.surrogates c.begin_at.ensures.nothing c.begin_at.ensures.kept c.new.ensures.empty c.new-2.ensures (λ i. record { waiting = c.new-3.ensures.items i; ready = c.new-4.ensures.ready i; running = c.new-4.ensures.running i; replies = c.new-5.ensures.replies i; calls = c.new-5.ensures.calls i }) refl refl;
+  stands = begins_stands c.args.here.space c.args.here.n c.args.limits (life_of c.args.birth.now) _ (c.in_ok-sessions.ensures {u = tt}).each (c.in_ok-sessions.ensures {u = tt}).begun c.begin_at.ensures.me c.begin_at.ensures.exported c.begin_at.ensures.dirties c.begin_at.ensures.surrogates c.begin_at.ensures.nothing c.begin_at.ensures.kept c.new.ensures.empty c.new-2.ensures (λ i. record { waiting = c.new-3.ensures.items i; ready = c.new-3.ensures.ready i; running = c.new-3.ensures.running i; replies = c.new-4.ensures.replies i; calls = c.new-4.ensures.calls i }) refl refl;
   here = refl;
 }

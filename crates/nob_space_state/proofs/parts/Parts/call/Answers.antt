@@ -96,8 +96,8 @@ returns-in_err-send_pinned-clause-err c = after_error _ c.from_residual-in_err-s
           table = c.args.self.now.table;
           dirty = c.args.self.now.dirty;
           pins = c.send_pinned.new.pins;
-          work = record { waiting = c.args.self.now.waiting.items; ready = c.args.self.now.jobs.ready; running = c.args.self.now.jobs.running; replies = replies; calls = calls };
-          awaited = c.args.self.now.waiting.awaited;
+          work = record { waiting = c.args.self.now.messages.waiting.items; ready = c.args.self.now.messages.jobs.ready; running = c.args.self.now.messages.jobs.running; replies = replies; calls = calls };
+          awaited = c.args.self.now.messages.waiting.awaited;
           calls = c.args.self.now.calls_made;
           jobs = c.args.self.now.jobs_made;
         }
@@ -119,8 +119,8 @@ returns-clause-stands c limits D stands =
       table = c.args.self.now.table;
       dirty = c.args.self.now.dirty;
       pins = c.send_pinned.new.pins;
-      work = record { waiting = c.args.self.now.waiting.items; ready = c.args.self.now.jobs.ready; running = c.args.self.now.jobs.running; replies = c.push.new.self.replies; calls = c.push.new.self.calls };
-      awaited = c.args.self.now.waiting.awaited;
+      work = record { waiting = c.args.self.now.messages.waiting.items; ready = c.args.self.now.messages.jobs.ready; running = c.args.self.now.messages.jobs.running; replies = c.push.new.self.replies; calls = c.push.new.self.calls };
+      awaited = c.args.self.now.messages.waiting.awaited;
       calls = c.args.self.now.calls_made + 1;
       jobs = c.args.self.now.jobs_made;
     }) (did.Call c.args.target.now c.args.method c.args.value.now c.new-call.result ∷ D)) (sym c.place.ensures.value)
@@ -129,8 +129,8 @@ returns-clause-stands c limits D stands =
       table = c.args.self.now.table;
       dirty = c.args.self.now.dirty;
       pins = c.send_pinned.new.pins;
-      work = record { waiting = c.args.self.now.waiting.items; ready = c.args.self.now.jobs.ready; running = c.args.self.now.jobs.running; replies = replies; calls = c.push.new.self.calls };
-      awaited = c.args.self.now.waiting.awaited;
+      work = record { waiting = c.args.self.now.messages.waiting.items; ready = c.args.self.now.messages.jobs.ready; running = c.args.self.now.messages.jobs.running; replies = replies; calls = c.push.new.self.calls };
+      awaited = c.args.self.now.messages.waiting.awaited;
       calls = c.args.self.now.calls_made + 1;
       jobs = c.args.self.now.jobs_made;
     }) (did.Call c.args.target.now c.args.method c.args.value.now c.new-call.result ∷ D)) (sym (c.push.ensures.replies ∙ c.reserve_calls.ensures.replies))

@@ -4,7 +4,10 @@ use Rattle.nob_model_types.specs.declared.answer.Job.{Job}
 use Rattle.nob_model_work.specs.Work.{without_first}
 use Rattle.nob_model.specs.Right.{claim_of, job_of}
 use Rattle.nob_model_work.specs.declared.work.Run.{Run}
-use Rattle.nob_space_jobs.specs.Jobs.{is_free_of, IsAbove}
+use Rattle.nob_model_types.specs.declared.deed.Deed.TheVariants as did
+use Rattle.nob_space_messages.specs.Jobs.{is_free_of, IsAbove}
+use Rattle.nob_space_messages.specs.Waiting.{WaitingList}
+use Rattle.nob_space_state.specs.Stands.{Stands}
 use Rattle.nob_space_state.proofs.Claiming.{claim_right, claim_done, claim_found, claimed_is, job_is_of}
 use Rattle.nob_space_state.proofs.Numbered.{jobs_below}
 use Rattle.nob_space_state.proofs.Passing.{error_on, wants_as}
@@ -22,7 +25,7 @@ returns-in_err-reserve_running-clause-answer c limits D stands =
 
 pub claim-requires-clause-free : goal.claim-requires-clause-free
 claim-requires-clause-free c =
-    let there = claim_found c.args.self.now.jobs_made (find (is_free_of c.args.self.now.jobs.running) c.args.self.now.jobs.ready) c.in_ok-job.job c.in_ok-job.ensures.answer in
+    let there = claim_found c.args.self.now.jobs_made (find (is_free_of c.args.self.now.messages.jobs.running) c.args.self.now.messages.jobs.ready) c.in_ok-job.job c.in_ok-job.ensures.answer in
     subst IsSome (sym ((λ i. find (is_free_of (c.reserve_running.ensures.running i)) (c.reserve_running.ensures.ready i)) ∙ there.1)) refl
 
 pub returns-clause-answer : goal.returns-clause-answer
@@ -30,16 +33,26 @@ returns-clause-answer c limits D stands = claim_right stands ∙ c.in_ok-job.ens
 
 pub returns-clause-stands : goal.returns-clause-stands
 returns-clause-stands c limits D stands =
-    let there = claim_found c.args.self.now.jobs_made (find (is_free_of c.args.self.now.jobs.running) c.args.self.now.jobs.ready) c.in_ok-job.job c.in_ok-job.ensures.answer in
+    let there = claim_found c.args.self.now.jobs_made (find (is_free_of c.args.self.now.messages.jobs.running) c.args.self.now.messages.jobs.ready) c.in_ok-job.job c.in_ok-job.ensures.answer in
     let is : job_of (c.args.self.now.jobs_made + 1) there.0.from there.0.item ≡ Ok (answers.Job c.in_ok-job.job) =
     claimed_is c.args.self.now.jobs_made there.0 c.in_ok-job.job (ap (claim_of c.args.self.now.jobs_made) (sym there.1) ∙ c.in_ok-job.ensures.answer) in
-    claim_done stands there.0 c.in_ok-job.job c.claim.new.self.ready c.claim.new.self.running (claim_is c.args.self.now.here.space c.args.self.now.here.n limits D c.in_ok-job.job (returns-clause-answer c limits D stands)) there.1 is
+    subst (λ (w : WaitingList). Stands c.args.self.now.here.space c.args.self.now.here.n limits (record {
+      sessions = c.args.self.now.sessions.items;
+      table = c.args.self.now.table;
+      dirty = c.args.self.now.dirty;
+      pins = c.args.self.now.pins;
+      work = record { waiting = w.items; ready = c.claim.new.self.jobs.ready; running = c.claim.new.self.jobs.running; replies = c.args.self.now.calls.replies; calls = c.args.self.now.calls.calls };
+      awaited = w.awaited;
+      calls = c.args.self.now.calls_made;
+      jobs = c.args.self.now.jobs_made + 1;
+    }) (did.Claim c.in_ok-job.job ∷ D)) (sym (c.claim.ensures.waiting ∙ c.reserve_running.ensures.waiting))
+    (claim_done stands there.0 c.in_ok-job.job c.claim.new.self.jobs.ready c.claim.new.self.jobs.running (claim_is c.args.self.now.here.space c.args.self.now.here.n limits D c.in_ok-job.job (returns-clause-answer c limits D stands)) there.1 is
     (c.claim.ensures.ready ∙ (λ i. without_first (is_free_of (c.reserve_running.ensures.running i)) (c.reserve_running.ensures.ready i)))
-    (c.claim.ensures.running there.0 ((λ i. find (is_free_of (c.reserve_running.ensures.running i)) (c.reserve_running.ensures.ready i)) ∙ there.1) ∙ ap (λ runs. record { job = c.in_ok-job.job.job; message = there.0 } ∷ runs) c.reserve_running.ensures.running)
+    (c.claim.ensures.running there.0 ((λ i. find (is_free_of (c.reserve_running.ensures.running i)) (c.reserve_running.ensures.ready i)) ∙ there.1) ∙ ap (λ runs. record { job = c.in_ok-job.job.job; message = there.0 } ∷ runs) c.reserve_running.ensures.running))
 
 pub claim-requires-clause-above : goal.claim-requires-clause-above
 claim-requires-clause-above c =
     let made = c.args.self.now.jobs_made in
-    let there = claim_found made (find (is_free_of c.args.self.now.jobs.running) c.args.self.now.jobs.ready) c.in_ok-job.job c.in_ok-job.ensures.answer in
+    let there = claim_found made (find (is_free_of c.args.self.now.messages.jobs.running) c.args.self.now.messages.jobs.ready) c.in_ok-job.job c.in_ok-job.ensures.answer in
     let is : job_of (made + 1) there.0.from there.0.item ≡ Ok (answers.Job c.in_ok-job.job) = claimed_is made there.0 c.in_ok-job.job (ap (claim_of made) (sym there.1) ∙ c.in_ok-job.ensures.answer) in
     subst (λ (runs : List Run). IsAbove runs c.in_ok-job.job.job) (sym c.reserve_running.ensures.running) (jobs_below c.requires.2 c.in_ok-job.job.job (job_is_of (made + 1) there.0 c.in_ok-job.job is).number)

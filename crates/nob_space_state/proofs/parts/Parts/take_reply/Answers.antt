@@ -41,8 +41,8 @@ returns-in_default-reply-clause-stands c limits D stands =
       table = c.args.self.now.table;
       dirty = c.args.self.now.dirty;
       pins = c.args.self.now.pins;
-      work = record { waiting = c.args.self.now.waiting.items; ready = c.args.self.now.jobs.ready; running = c.args.self.now.jobs.running; replies = replies; calls = c.remove.new.self.calls };
-      awaited = c.args.self.now.waiting.awaited;
+      work = record { waiting = c.args.self.now.messages.waiting.items; ready = c.args.self.now.messages.jobs.ready; running = c.args.self.now.messages.jobs.running; replies = replies; calls = c.remove.new.self.calls };
+      awaited = c.args.self.now.messages.waiting.awaited;
       calls = c.args.self.now.calls_made;
       jobs = c.args.self.now.jobs_made;
     }) (did.TakeEnd c.args.call ∷ D)) (sym c.remove.ensures.replies)

@@ -1,0 +1,3 @@
+pub mod Queues
+pub mod Keys
+pub mod Lends

@@ -1,5 +1,0 @@
-use Rattle.nob_space_waiting.proofs.Carried.{zeros_at}
-use Rattle.nob_space_waiting.proofs.copies.no_copies.Goals as goal
-
-pub returns : goal.returns
-returns c owner = zeros_at 33 owner

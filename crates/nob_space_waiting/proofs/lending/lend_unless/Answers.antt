@@ -1,7 +1,0 @@
-use Rattle.std.proofs.Common.{ap, sym, ◌∙◌}
-use Rattle.nob_space_waiting.specs.Lines.{is_standing, lent_where}
-use Rattle.nob_space_waiting.proofs.Lent.{lent_none}
-use Rattle.nob_space_waiting.proofs.lending.lend_unless.Goals as goal
-
-pub returns-in_default-clause-rows : goal.returns-in_default-clause-rows
-returns-in_default-clause-rows c = lent_none c.args.rep.now c.args.slots.now.rows ∙ ap (λ o. lent_where c.args.rep.now (is_standing o) c.args.slots.now.rows) (sym c.in_default.is)
