@@ -5,7 +5,7 @@ use crate::task::Kind;
 use crate::thing::Thing;
 use crate::timer::{Timer, Waited};
 use nob_ids::SpaceId;
-use nob_node::{Hold, Node, Returned};
+use nob_nodes::{Hold, Node, Returned};
 use nob_pickle::{Value, Values};
 use std::alloc::Global;
 use std::sync::Wait;

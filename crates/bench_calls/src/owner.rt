@@ -1,7 +1,7 @@
 //! What an application does that has an object for the others.
 
 use crate::thing::Thing;
-use nob_node::{Hold, Node};
+use nob_nodes::{Hold, Node};
 use std::sync::Wait;
 
 /// The name of an object that a node has for the others.

@@ -1,7 +1,7 @@
 //! What is measured.
 
 use nob_ids::Limits;
-use nob_node::Keep;
+use nob_nodes::Keep;
 use std::{env, io};
 
 /// What each call is for.

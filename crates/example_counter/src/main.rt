@@ -6,10 +6,9 @@
 mod counter;
 
 use crate::counter::Counter;
-use nob_node::Node;
 use nob_pickle::Value;
 use nob_two_nodes::{
-    Company, Player, answer_to, give_back, look_up, offer, partner_of, retire, run_two,
+    Company, Node, Player, answer_to, give_back, look_up, offer, partner_of, retire, run_two,
 };
 use std::io;
 use std::sync::Wait;

@@ -13,7 +13,7 @@ use Rattle.nob_keeper.specs.Seats.{newest}
 use Rattle.nob_frame.specs.declared.frame.Frame.{Frame}
 use Rattle.nob_link.specs.declared.parcel.Parcel.{Parcel}
 use Rattle.nob_link.specs.declared.parcel.Parcel.TheVariants as parcels
-use Rattle.nob_kept.specs.declared.receipt.Receipt.{Receipt}
+use Rattle.nob_keeper.specs.Receipt.{Receipt}
 use Rattle.nob_agents.specs.Ways.{Way, IsTied}
 use Rattle.nob_agents.specs.Sending.{AllFed, AreApart, with_fed, fed, transmitted, parcels_to, parcels_with, frames_in, given_to, AllGoneOn, AreTied}
 

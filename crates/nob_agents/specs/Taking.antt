@@ -6,7 +6,7 @@ use Rattle.nob_model_types.specs.declared.event.Event.{Event}
 use Rattle.nob_model_types.specs.declared.event.Event.TheVariants as events
 use Rattle.nob_link.specs.declared.parcel.Parcel.{Parcel}
 use Rattle.nob_link.specs.declared.parcel.Parcel.TheVariants as parcels
-use Rattle.nob_kept.specs.declared.receipt.Receipt.{Receipt}
+use Rattle.nob_keeper.specs.Receipt.{Receipt}
 use Rattle.nob_agents.specs.declared.asking.Asking.{Asking}
 
 -- an agent that takes, as contracts see it: whom it takes from; the parcels that it took, the first first; its receipts, the newest FIRST; and what it is to ask

@@ -4,7 +4,7 @@ use Prim.Native.Nat.{zero, suc}
 use Rattle.nob_model_types.specs.declared.entry.Entry.{Entry}
 use Rattle.nob_model.specs.Right.{IsRight}
 use Rattle.nob_model_invariant.specs.Typed.{IsOfTypes}
-use Rattle.nob_space.specs.Spaces.{Owner, StandsFor, SameSpace}
+use Rattle.nob_check.specs.Spaces.{Owner, StandsFor, SameSpace}
 use Rattle.nob_trace.specs.declared.stamped.Stamped.{Stamped}
 use Rattle.nob_trace.specs.declared.trace.Trace.{Trace}
 use Rattle.nob_model_traces.specs.Apart.{entry_at}

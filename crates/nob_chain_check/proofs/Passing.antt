@@ -4,7 +4,7 @@ use Prim.Native.Nat.{suc}
 use Rattle.std.specs.Option.{option_or}
 use Rattle.std.proofs.lemmas.List.{take-append-drop, length-append}
 use Rattle.nob_model_types.specs.declared.entry.Entry.{Entry}
-use Rattle.nob_space.specs.Spaces.{Owner, StandsFor}
+use Rattle.nob_check.specs.Spaces.{Owner, StandsFor}
 use Rattle.nob_trace.specs.declared.stamped.Stamped.{Stamped}
 use Rattle.nob_trace.specs.Stamps.{Rise, last_stamp}
 use Rattle.nob_model_traces.specs.Traces.{journal_at}

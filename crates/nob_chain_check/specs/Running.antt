@@ -5,7 +5,7 @@ use Rattle.std.specs.Option.{option_or}
 use Rattle.nob_ids.specs.declared.limits.Limits.{Limits}
 use Rattle.nob_model_types.specs.Sessions.{is_peer}
 use Rattle.nob_model_invariant.specs.Typed.{AreOfTypes}
-use Rattle.nob_space.specs.Spaces.{Owner, StandsFor}
+use Rattle.nob_check.specs.Spaces.{Owner, StandsFor}
 use Rattle.nob_trace.specs.declared.trace.Trace.{Trace}
 use Rattle.nob_model_traces.specs.Traces.{journal_at, AreRight}
 use Rattle.nob_check.specs.Running.{IsRightAndTyped, HaveLimits}

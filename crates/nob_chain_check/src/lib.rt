@@ -10,5 +10,5 @@ mod sealing;
 
 pub use checking::{check, first_wrong_chain};
 pub use joining::all_joined;
-pub use nob_check::Merged;
+pub use nob_check::{Merged, first_fault};
 pub use nob_model_chains::{SetError, SetFault};

@@ -11,9 +11,8 @@ ghost use Rattle.nob_chain_check.specs.Running as words;
 
 use crate::sealing::wrong_after;
 use nob_chain::Chain;
-use nob_check::answers;
+use nob_check::{Space, answers};
 use nob_model_chains::WrongPart;
-use nob_space::Space;
 use nob_trace::Stamped;
 use std::alloc::{AllocError, Global};
 

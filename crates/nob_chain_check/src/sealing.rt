@@ -5,14 +5,14 @@ ghost use Rattle.std.specs.List.{list_all};
 ghost use Rattle.nob_model_types.specs.declared.entry.Entry.{Entry as EntryOf};
 ghost use Rattle.nob_model_types.specs.Sessions.{is_peer};
 ghost use Rattle.nob_model_history.specs.Histories.{history};
-ghost use Rattle.nob_space.specs.Spaces.{StandsFor};
+ghost use Rattle.nob_check.specs.Spaces.{StandsFor};
 ghost use Rattle.nob_model_chains.specs.Sealing as words;
 ghost use Rattle.nob_chain_check.specs.Running.{ArePeers, HasPeers, with_wrong};
 
 use nob_chain::{PeerSeal, Seal};
+use nob_check::Space;
 use nob_model_chains::same_ending;
 use nob_model_types::Tally;
-use nob_space::Space;
 
 // Whether it is said of a peer what a tally says.
 fn is_as(peer: &PeerSeal, tally: &Tally) -> bool

@@ -1,3 +1,4 @@
+pub use Rattle.nob_space.specs.Spaces
 pub use Rattle.nob_model_types.specs.Sessions
 pub use Rattle.nob_model_journal.specs.Journals
 pub use Rattle.nob_model_journal.specs.Losses

@@ -22,5 +22,6 @@ pub use judging::judge;
 pub use merged::Merged;
 pub use nob_model_journal::{Promise, Verdict};
 pub use nob_model_traces::{CheckError, CheckFault};
+pub use nob_space::Space;
 pub use origins::first_fault;
 pub use running::answers;

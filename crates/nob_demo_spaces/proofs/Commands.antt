@@ -1,8 +1,8 @@
 -- The command is one of which clap's contracts say all, whatever the nodes of a scene keep.
 use Rattle.std.proofs.Common.{◌≡◌, ◌<◌, ◌≤◌, ◌^◌, true, refl, arith}
 use Rattle.clap.specs.Words.{is_simple, is_simple_and_free}
-use Rattle.nob_kept.specs.declared.keep.Keep.{Keep}
-use Rattle.nob_kept.specs.declared.keep.Keep.TheVariants.{All, Nothing}
+use Rattle.nob_keeper.specs.Keep.{Keep}
+use Rattle.nob_keeper.specs.Keep.TheVariants.{All, Nothing}
 use Rattle.nob_demo_spaces.specs.Scenes.{most_spaces, most_calls}
 use Rattle.nob_demo_spaces.specs.Words.{nobj}
 

@@ -1,9 +1,9 @@
 -- A chain, or a summary, of one space more.
 use Rattle.std.proofs.Common.{◌≡◌, ℕ, zero, suc, ◌+◌, List, [], ◌∷◌, ◌++◌, length, map, refl, sym, ap, ◌∙◌, arith, length-append}
 use Rattle.nob_chain.specs.declared.chain.ChainParts.{ChainParts}
-use Rattle.nob_kept.specs.declared.keep.Keep.{Keep}
-use Rattle.nob_kept.specs.declared.keep.Keep.TheVariants as keeps
-use Rattle.nob_kept.specs.declared.summary.Summary.{Summary}
+use Rattle.nob_keeper.specs.Keep.{Keep}
+use Rattle.nob_keeper.specs.Keep.TheVariants as keeps
+use Rattle.nob_keeper.specs.Summary.{Summary}
 use Rattle.nob_keeper.specs.Segments.{spaces_to}
 use Rattle.nob_demo_spaces.specs.Endings.{AreChainsOf, AreSummariesOf, AreOfEach}
 

@@ -18,8 +18,8 @@ use Rattle.clap.specs.declared.builder.value_parser.ValueParser.TheVariants.{Uns
 use Rattle.clap.specs.declared.builder.value_parser.Reading.{Reading}
 use Rattle.clap.specs.declared.builder.value_parser.Reading.TheVariants.{AsWritten}
 use Rattle.clap.proofs.ValueTestLemmas.{accepts-Accepts}
-use Rattle.nob_kept.specs.declared.keep.Keep.{Keep}
-use Rattle.nob_kept.specs.declared.keep.Keep.TheVariants as keeps
+use Rattle.nob_keeper.specs.Keep.{Keep}
+use Rattle.nob_keeper.specs.Keep.TheVariants as keeps
 use Rattle.nob_demo_spaces.specs.Scenes.{most_spaces, most_calls}
 use Rattle.nob_demo_spaces.specs.Options.{AreWithin, DrawIsWithin, IsWithin, SceneIsWithin, greatest}
 use Rattle.nob_demo_spaces.specs.Words.{TakenAreWithin, keep_in, nobj, takes_words, word_faults}

@@ -8,9 +8,9 @@ use Rattle.nob_chain.specs.Chains.{chain_text}
 use Rattle.nob_chain.specs.Writing.{IsWritable}
 use Rattle.nob_model_chains.specs.declared.fault.SetFault.{SetFault}
 use Rattle.nob_model_chains.specs.Faults.{IsFault, AreAccepted}
-use Rattle.nob_kept.specs.declared.keep.Keep.{Keep}
-use Rattle.nob_kept.specs.declared.keep.Keep.TheVariants as keeps
-use Rattle.nob_kept.specs.declared.summary.Summary.{Summary}
+use Rattle.nob_keeper.specs.Keep.{Keep}
+use Rattle.nob_keeper.specs.Keep.TheVariants as keeps
+use Rattle.nob_keeper.specs.Summary.{Summary}
 use Rattle.nob_keeper.specs.Segments.{spaces_to}
 use Rattle.nob_demo_spaces.specs.Scenes.{Setting}
 use Rattle.nob_demo_spaces.specs.Lines.{lines, unchecked_lines, last_line, stopped}

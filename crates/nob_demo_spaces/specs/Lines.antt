@@ -3,8 +3,8 @@ use Rattle.std.specs.Prelude.{ℕ, ℤ, List, [], ◌∷◌, ◌++◌, Bool, tru
 use Rattle.std.specs.Fmt.{decimal, signed_decimal}
 use Rattle.nob_ids.specs.Reasons.{reason_number}
 use Rattle.nob_ids.specs.declared.reason.Reason.{Reason}
-use Rattle.nob_kept.specs.declared.summary.PeerTally.{PeerTally}
-use Rattle.nob_kept.specs.declared.summary.Summary.{Summary}
+use Rattle.nob_keeper.specs.PeerTally.{PeerTally}
+use Rattle.nob_keeper.specs.Summary.{Summary}
 use Rattle.nob_demo_spaces.specs.declared.score.Score.{Score}
 use Rattle.nob_demo_spaces.specs.declared.ending.Ending.{Ending}
 use Rattle.nob_demo_spaces.specs.declared.ending.Ending.TheVariants.{Accepted, Refused, Printed, Unchecked, Full, OutOfMemory}

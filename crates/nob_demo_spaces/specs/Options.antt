@@ -8,8 +8,8 @@ use Rattle.clap.specs.Simple.{new_shape}
 use Rattle.clap.specs.Values.{IsUnsignedIn}
 use Rattle.clap.specs.declared.builder.action.ArgAction.TheVariants.{SetTrue}
 use Rattle.clap.specs.declared.builder.value_parser.ValueParser.TheVariants.{Unsigned}
-use Rattle.nob_kept.specs.declared.keep.Keep.{Keep}
-use Rattle.nob_kept.specs.declared.keep.Keep.TheVariants.{All, Nothing}
+use Rattle.nob_keeper.specs.Keep.{Keep}
+use Rattle.nob_keeper.specs.Keep.TheVariants.{All, Nothing}
 use Rattle.nob_demo_spaces.specs.Scenes.{Setting, most_spaces, most_calls}
 use Rattle.nob_demo_spaces.specs.declared.excerpt.Excerpt.{Excerpt}
 

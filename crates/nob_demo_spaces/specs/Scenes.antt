@@ -1,7 +1,7 @@
 -- What a scene is: spaces in threads of one process, of which the first exports a counter that the others call.
 use Rattle.std.specs.Prelude.{◌≤◌, ℕ, Bool}
-use Rattle.nob_kept.specs.declared.keep.Keep.{Keep}
-use Rattle.nob_kept.specs.declared.keep.Keep.TheVariants.{All, Nothing}
+use Rattle.nob_keeper.specs.Keep.{Keep}
+use Rattle.nob_keeper.specs.Keep.TheVariants.{All, Nothing}
 
 -- a scene: its spaces, the workers of each, calls in all, frames of ten that are lost, where chances start, whether chains are printed, and what the nodes keep of their entries
 pub record Setting : Type 0 where

@@ -4,8 +4,8 @@ use Rattle.std.specs.Str.{bytes_eq}
 use Rattle.clap.specs.Words.{App, Row, Text, with_subcommand, fault_of, subcommand_of}
 use Rattle.clap.specs.Simple.{new_shape}
 use Rattle.clap.specs.Kinds.{Kinds}
-use Rattle.nob_kept.specs.declared.keep.Keep.{Keep}
-use Rattle.nob_kept.specs.declared.keep.Keep.TheVariants.{All, Nothing}
+use Rattle.nob_keeper.specs.Keep.{Keep}
+use Rattle.nob_keeper.specs.Keep.TheVariants.{All, Nothing}
 use Rattle.nob_demo_spaces.specs.Options.{excerpt_in, draw_shape, spaces_shape, setting_in, AreWithin}
 use Rattle.nob_demo_spaces.specs.declared.fault.Fault.{Fault}
 use Rattle.nob_demo_spaces.specs.declared.fault.Fault.TheVariants.{Words, Read, Write, Memory}

@@ -10,8 +10,7 @@ ghost use Rattle.nob_demo_traces.specs.Judging as spec;
 
 use crate::set::entries_of;
 use nob_chain::Chain;
-use nob_chain_check::first_wrong_chain;
-use nob_check::first_fault;
+use nob_chain_check::{first_fault, first_wrong_chain};
 use nob_ids::SpaceId;
 use nob_model_chains::{WrongChain, WrongPart};
 use nob_model_traces::{CheckFault, WrongEntry};

@@ -6,7 +6,7 @@ use Rattle.nob_model_types.specs.declared.answer.Answer.{Answer}
 use Rattle.nob_model_types.specs.declared.answer.Answer.TheVariants as answers
 use Rattle.nob_model_types.specs.declared.answer.Job.{Job}
 use Rattle.nob_model_types.specs.declared.refusal.Refusal.{Refusal}
-use Rattle.nob_kept.specs.declared.receipt.Receipt.{Receipt}
+use Rattle.nob_keeper.specs.Receipt.{Receipt}
 
 -- the job that an event is to end, if it is to end one
 abbrev pub finishes : Event → Option ℕ

@@ -1,4 +1,4 @@
-pub use Rattle.nob_kept.specs.declared.error.KeeperError
+pub use Rattle.nob_keeper.specs.KeeperError
 pub mod Shelves
 pub mod Ends
 pub mod Working

@@ -4,7 +4,7 @@ use Rattle.nob_model_types.specs.declared.answer.Answer.{Answer}
 use Rattle.nob_model_types.specs.declared.answer.Answer.TheVariants as answers
 use Rattle.nob_model_types.specs.declared.refusal.Refusal.{Refusal}
 use Rattle.nob_model_types.specs.declared.refusal.Refusal.TheVariants as refusals
-use Rattle.nob_kept.specs.declared.receipt.Receipt.{Receipt}
+use Rattle.nob_keeper.specs.Receipt.{Receipt}
 use Rattle.nob_dispatch_objects.specs.declared.object.Done.{Done}
 use Rattle.nob_dispatch_objects.specs.declared.object.Done.TheVariants as dones
 use Rattle.nob_dispatch.specs.declared.stage.Stage.{Stage}

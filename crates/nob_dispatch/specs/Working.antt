@@ -1,8 +1,8 @@
 -- What a worker has done, and what it keeps. In lists of receipts and of jobs the newest stands FIRST.
 use Rattle.std.specs.Prelude.{◌≡◌, ℕ, Bool, true, false, List, Option, Some, None, Result, Ok}
 use Rattle.nob_model_types.specs.declared.answer.Job.{Job}
-use Rattle.nob_kept.specs.declared.receipt.Receipt.{Receipt}
-use Rattle.nob_kept.specs.declared.error.KeeperError.{KeeperError}
+use Rattle.nob_keeper.specs.Receipt.{Receipt}
+use Rattle.nob_keeper.specs.KeeperError.{KeeperError}
 use Rattle.nob_dispatch.specs.declared.errand.Errand.{Errand}
 use Rattle.nob_dispatch.specs.declared.errand.Return.{Return}
 use Rattle.nob_dispatch.specs.declared.stage.Keeping.{Keeping}

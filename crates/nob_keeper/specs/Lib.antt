@@ -1,3 +1,10 @@
+pub use Rattle.nob_kept.specs.declared.receipt.Receipt
+pub use Rattle.nob_kept.specs.declared.error.KeeperError
+pub use Rattle.nob_kept.specs.declared.keep.Keep
+pub use Rattle.nob_kept.specs.declared.identity.Identity
+pub use Rattle.nob_kept.specs.declared.summary.Record
+pub use Rattle.nob_kept.specs.declared.summary.Summary
+pub use Rattle.nob_kept.specs.declared.summary.PeerTally
 pub use Rattle.nob_kept.specs.Accounts
 pub use Rattle.nob_kept.specs.Segments
 pub use Rattle.nob_kept.specs.Receipts

@@ -8,7 +8,7 @@ use Rattle.nob_model_types.specs.declared.refusal.Refusal.{Refusal}
 use Rattle.nob_model.specs.Next.{can_settle, can_clean, can_claim, to_withdraw}
 use Rattle.nob_session.specs.declared.due.Due.{Due}
 use Rattle.nob_session.specs.declared.due.Due.TheVariants as dues
-use Rattle.nob_space_state.specs.Dues.{due}
+use Rattle.nob_kept.specs.Dues.{due}
 use Rattle.nob_kept.specs.Accounts.{Account, history_in, identity_of, is_full, with_next}
 use Rattle.nob_kept.specs.Kinds.{is_closing}
 use Rattle.nob_kept.specs.Receipts.{entry_of}

@@ -11,9 +11,8 @@ ghost use Rattle.nob_keeper.specs.Waking as waking;
 use crate::desk::{Desk, REPLY_PLACES, reply_place};
 use crate::waking::{Prospects, Wakes, can_care, prospects_of, wakes_of};
 use nob_ids::{CallNo, SpaceId};
-use nob_kept::{Backlog, Due, Identity, KeeperError, Kept, Receipt, Seat, Tally};
+use nob_kept::{Backlog, Due, Identity, KeeperError, Kept, Receipt, Seat, Tally, Work};
 use nob_model_types::{Event, Here};
-use nob_space::Work;
 
 /// What stands under a keeper's lock: the space with its trace, and who waits.
 pub(crate) struct Held {

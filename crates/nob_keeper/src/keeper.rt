@@ -2,7 +2,7 @@
 
 ghost use Rattle.std.specs.Prelude.{◌≡◌, ◌⊎◌, ◌≤◌, [], OnOk, OnErr, IfOk, IfErr, IfSome, vec_len};
 ghost use Rattle.nob_model_types.specs.declared.event.Event.TheVariants as events;
-ghost use Rattle.nob_space.specs.Spaces.{StandsFor};
+ghost use Rattle.nob_kept.specs.Spaces.{StandsFor};
 ghost use Rattle.nob_chain.specs.Chains.{joined};
 ghost use Rattle.nob_kept.specs.Accounts as accounts;
 ghost use Rattle.nob_kept.specs.Closing as closing;
@@ -20,10 +20,10 @@ use crate::waking::Prospects;
 use nob_chain::Chain;
 use nob_ids::{CallNo, SpaceId};
 use nob_kept::{
-    AnswerKind, Backlog, Identity, Keep, KeeperError, Kept, Seat, Space, Summary, Tally, is_size,
+    AnswerKind, Backlog, Identity, Keep, KeeperError, Kept, Seat, Space, Summary, Tally, Work,
+    is_size,
 };
 use nob_model_types::{Event, Refusal};
-use nob_space::Work;
 use std::alloc::Global;
 use std::sync::{Condvar, Mutex, Wait};
 

@@ -21,7 +21,7 @@ pub use kept::Kept;
 pub use kinds::{
     AnswerKind, CallAnswer, CloseAnswer, DoneAnswer, ExportAnswer, OpenAnswer, WithdrawAnswer,
 };
-pub use nob_space::{Backlog, Due, Space, Tally};
+pub use nob_space::{Backlog, Due, Space, Tally, Work};
 pub use receipt::Receipt;
 pub use seat::Seat;
 pub use summary::{PeerTally, Record, Summary};

@@ -8,8 +8,8 @@ use Rattle.nob_model_types.specs.declared.event.Event.TheVariants as events
 use Rattle.nob_model_types.specs.declared.answer.Answer.{Answer}
 use Rattle.nob_model_types.specs.declared.answer.Answer.TheVariants as answers
 use Rattle.nob_model_types.specs.declared.refusal.Refusal.{Refusal}
-use Rattle.nob_kept.specs.declared.error.KeeperError.TheVariants as keepers
-use Rattle.nob_kept.specs.declared.receipt.Receipt.{Receipt}
+use Rattle.nob_keeper.specs.KeeperError.TheVariants as keepers
+use Rattle.nob_keeper.specs.Receipt.{Receipt}
 use Rattle.nob_node.specs.declared.error.NodeError.{NodeError}
 use Rattle.nob_node.specs.declared.error.NodeError.TheVariants as errors
 use Rattle.nob_node.specs.declared.hold.Returned.{Returned}

@@ -1,9 +1,9 @@
 -- What a node leaves.
 use Rattle.std.specs.Prelude.{◌≡◌, List}
-use Rattle.nob_kept.specs.declared.identity.Identity.{Identity}
-use Rattle.nob_kept.specs.declared.receipt.Receipt.{Receipt}
-use Rattle.nob_kept.specs.declared.summary.Record.{Record}
-use Rattle.nob_kept.specs.declared.summary.Record.TheVariants as records
+use Rattle.nob_keeper.specs.Identity.{Identity}
+use Rattle.nob_keeper.specs.Receipt.{Receipt}
+use Rattle.nob_keeper.specs.Record.{Record}
+use Rattle.nob_keeper.specs.Record.TheVariants as records
 use Rattle.nob_keeper.specs.Summaries.{IsRecordOf}
 use Rattle.nob_node_site.specs.declared.config.Config.{Config}
 

@@ -4,7 +4,7 @@ ghost use Rattle.std.specs.Prelude.{◌≡◌, ◌≢◌, ◌++◌, List, [], So
 ghost use Rattle.nob_model_types.specs.declared.event.Event.TheVariants as events;
 ghost use Rattle.nob_model_types.specs.declared.answer.Answer.TheVariants as answers;
 ghost use Rattle.nob_pickle.specs.declared.value.Value.TheVariants as values;
-ghost use Rattle.nob_kept.specs.declared.receipt.Receipt.{Receipt as ReceiptOf};
+ghost use Rattle.nob_keeper.specs.Receipt.{Receipt as ReceiptOf};
 ghost use Rattle.nob_keeper.specs.Kinds as kinds;
 ghost use Rattle.nob_keeper.specs.Summaries as summaries;
 ghost use Rattle.nob_node.specs.Calls as calls;
@@ -36,7 +36,7 @@ pub struct Node<'x, B: Object> {
 
 impl<'x, B: Object> Model for Node<'x, B> {
     ghost use Rattle.std.specs.Prelude.{List};
-    ghost use Rattle.nob_kept.specs.declared.receipt.Receipt.{Receipt};
+    ghost use Rattle.nob_keeper.specs.Receipt.{Receipt};
 
     ghost Value = { List Receipt };
 

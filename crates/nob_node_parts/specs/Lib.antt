@@ -1,3 +1,5 @@
+pub use Rattle.nob_agents.specs.Ways
+pub use Rattle.nob_agents.specs.Sending
 pub mod Collected
 pub mod Coming
 pub mod Objects

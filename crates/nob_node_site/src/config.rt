@@ -2,7 +2,7 @@
 
 ghost use Rattle.std.specs.Prelude.{◌≡◌, ◌↔◌, ◌≤◌, [], true, IfSome, is_some};
 ghost use Rattle.nob_fault.specs.Shims.{opening};
-ghost use Rattle.nob_kept.specs.declared.keep.Keep.TheVariants as keeps;
+ghost use Rattle.nob_keeper.specs.Keep.TheVariants as keeps;
 ghost use Rattle.nob_node_site.specs.Configs as spec;
 
 use nob_fault::Shim;

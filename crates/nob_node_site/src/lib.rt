@@ -10,9 +10,8 @@ mod threads;
 pub use config::{Config, Ends};
 pub use crew::{Crew, run_crew};
 pub use making::site_of;
-pub use nob_agents::Calls;
 pub use nob_node_jobs::{
     Desk, Errand, Gate, Hand, JobCalls, NodeJobs, OpenGate, Place, Placed, Remaining, Return, Shelf,
 };
-pub use nob_node_parts::{Inbox, Kept, Left, Outbox, Pulse};
+pub use nob_node_parts::{Calls, Inbox, Kept, Left, Outbox, Pulse};
 pub use site::{Parts, Site};

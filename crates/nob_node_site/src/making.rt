@@ -2,22 +2,21 @@
 
 ghost use Rattle.std.specs.Prelude.{◌≡◌, ◌≢◌, ◌≤◌, ◌<◌, [], false, length, IfSome, OnSome};
 ghost use Rattle.std.specs.List.{AllByRecursion};
-ghost use Rattle.nob_agents.specs.Ways.{IsTied};
-ghost use Rattle.nob_agents.specs.Sending.{AreApart};
+ghost use Rattle.nob_node_parts.specs.Ways.{IsTied};
+ghost use Rattle.nob_node_parts.specs.Sending.{AreApart};
 ghost use Rattle.nob_dispatch_lanes.specs.Ends.{given_by, got_by};
 ghost use Rattle.nob_dispatch_lanes.specs.Lanes.{all_given, all_got};
 
 use crate::config::{Config, Ends};
 use crate::crew::Crew;
 use crate::site::Site;
-use nob_agents::{Carer, Sender, Taker, Way};
 use nob_dispatch_lanes::{LanePut, LaneTake, lane};
 use nob_dispatch_objects::{Agent, Object};
 use nob_ids::SpaceId;
 use nob_keeper::{Keeper, Space};
 use nob_link::{PutEnd, TakeEnd};
 use nob_node_jobs::{Desk, Errand, Hand, Return};
-use nob_node_parts::{Inbox, Kept, Outbox};
+use nob_node_parts::{Carer, Inbox, Kept, Outbox, Sender, Taker, Way};
 use std::alloc::Global;
 use std::sync::Mutex;
 

@@ -1,1 +1,9 @@
+pub use Rattle.nob_keeper.specs.Keep
+pub use Rattle.nob_node.specs.Receipt
+pub use Rattle.nob_node.specs.Calls
+pub use Rattle.nob_node.specs.declared.error.NodeError
+pub use Rattle.nob_node.specs.Holds
+pub use Rattle.nob_node.specs.declared.hold.Hold
+pub use Rattle.nob_node.specs.declared.hold.Returned
+pub use Rattle.nob_node.specs.Config
 pub mod Layouts

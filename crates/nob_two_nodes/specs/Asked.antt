@@ -6,13 +6,13 @@ use Rattle.nob_pickle.specs.declared.value.Value.TheVariants as values
 use Rattle.nob_model_types.specs.declared.event.Event.{Event}
 use Rattle.nob_model_types.specs.declared.answer.Answer.{Answer}
 use Rattle.nob_model_types.specs.declared.refusal.Refusal.{Refusal}
-use Rattle.nob_node.specs.Receipt.{Receipt}
-use Rattle.nob_node.specs.Calls as calls
-use Rattle.nob_node.specs.declared.error.NodeError.{NodeError}
-use Rattle.nob_node.specs.Holds.{IsOneHold}
-use Rattle.nob_node.specs.declared.hold.Hold.{Hold}
-use Rattle.nob_node.specs.declared.hold.Returned.{Returned}
-use Rattle.nob_node.specs.declared.hold.Returned.TheVariants as returns
+use Rattle.nob_nodes.specs.Receipt.{Receipt}
+use Rattle.nob_nodes.specs.Calls as calls
+use Rattle.nob_nodes.specs.NodeError.{NodeError}
+use Rattle.nob_nodes.specs.Holds.{IsOneHold}
+use Rattle.nob_nodes.specs.Hold.{Hold}
+use Rattle.nob_nodes.specs.Returned.{Returned}
+use Rattle.nob_nodes.specs.Returned.TheVariants as returns
 
 -- the newest receipt is of this event, answered so
 abbrev pub IsLast : List Receipt → Event → Result Answer Refusal → Type 0

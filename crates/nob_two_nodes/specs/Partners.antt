@@ -1,7 +1,7 @@
 -- Two nodes.
 use Rattle.std.specs.Prelude.{◌≡◌, ℕ, ◌==◌, if◌then◌else◌}
-use Rattle.nob_kept.specs.declared.keep.Keep.{Keep}
-use Rattle.nob_node.specs.Config.{Config}
+use Rattle.nob_nodes.specs.Keep.{Keep}
+use Rattle.nob_nodes.specs.Config.{Config}
 
 -- the other of the spaces 1 and 2
 abbrev pub partner_of : (space : ℕ) → ℕ

@@ -7,7 +7,7 @@ ghost use Rattle.nob_two_nodes.specs.Asked as asked;
 
 use nob_dispatch_objects::Object;
 use nob_ids::SpaceId;
-use nob_node::{Hold, KeeperError, Node, NodeError, Returned};
+use nob_nodes::{Hold, KeeperError, Node, NodeError, Returned};
 use nob_pickle::Value;
 use std::sync::Wait;
 use std::thread;

@@ -2,7 +2,7 @@
 
 ghost use Rattle.std.specs.Prelude.{◌≡◌, IfSome};
 ghost use Rattle.nob_two_nodes.specs.Partners.{AreTwo};
-ghost use Rattle.nob_kept.specs.declared.keep.Keep.TheVariants as keeps;
+ghost use Rattle.nob_nodes.specs.Keep.TheVariants as keeps;
 
 use crate::sides::{both_sides, first_of, second_of};
 use nob_dispatch_objects::Object;

@@ -8,11 +8,10 @@ ghost use Rattle.nob_agents.specs.Sending.{AreApart};
 use nob_agents::{Carer, Sender, Taker, Turn, Way};
 use nob_fault::{Shim, words_between};
 use nob_ids::{Limits, SpaceId};
-use nob_keeper::{Keeper, KeeperError, Seat};
+use nob_keeper::{Keeper, KeeperError, Seat, Space};
 use nob_link::{PutEnd, TakeEnd, link};
 use nob_model_types::{Answer, Event, Outcome};
 use nob_pickle::Value;
-use nob_space::Space;
 use std::alloc::Global;
 use std::sync::Wait;
 

@@ -5,9 +5,8 @@ ghost use Rattle.std.specs.Prelude.{◌≡◌, OnOk, OnErr};
 use crate::objects::Thing;
 use nob_dispatch::{Dispatcher, Handing, JobCalls, OpenGate, Progress, Worker};
 use nob_ids::{CallNo, Limits, SpaceId};
-use nob_keeper::{Keeper, KeeperError, Seat};
+use nob_keeper::{Keeper, KeeperError, Seat, Space};
 use nob_model_types::{Answer, Event};
-use nob_space::Space;
 use std::alloc::Global;
 use std::sync::Wait;
 

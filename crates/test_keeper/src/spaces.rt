@@ -1,8 +1,7 @@
 //! New keepers.
 
 use nob_ids::{Limits, SpaceId};
-use nob_keeper::{Keeper, KeeperError};
-use nob_space::Space;
+use nob_keeper::{Keeper, KeeperError, Space};
 use std::alloc::Global;
 
 /// A keeper of a new space, one of two: `None` where there is no memory.

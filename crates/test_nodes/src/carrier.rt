@@ -2,7 +2,7 @@
 
 use crate::shared::Shared;
 use nob_link::{PutEnd, TakeEnd};
-use nob_nodes::{Beside, Meeting};
+use nob_two_nodes::{Beside, Meeting};
 use std::sync::Wait;
 use std::{mem, thread};
 

@@ -2,7 +2,7 @@ use Rattle.std.proofs.Common.{◌≡◌, true, [], map, refl, sym, ap, ap₂, su
 use Rattle.clap.specs.Words.{App, fault_of, is_simple, is_simple_and_free, subcommand_of}
 use Rattle.clap.specs.Kinds.{HasKind}
 use Rattle.clap.proofs.FaultLemmas.{failed_up}
-use Rattle.nob_kept.specs.declared.keep.Keep.{Keep}
+use Rattle.nob_keeper.specs.Keep.{Keep}
 use Rattle.nob_demo_spaces.specs.Options.{AreWithin}
 use Rattle.nob_demo_spaces.specs.Words.{keep_in, nobj, subcommand_by, takes_words}
 use Rattle.nob_demo_spaces.proofs.Commands.{simple, simple_and_free}

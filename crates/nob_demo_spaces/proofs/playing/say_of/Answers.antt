@@ -1,6 +1,6 @@
 use Rattle.std.proofs.Common.{◌≡◌, ℕ, ◌+◌, List, length, arith, sym, subst}
-use Rattle.nob_kept.specs.declared.keep.Keep.{Keep}
-use Rattle.nob_kept.specs.declared.summary.Summary.{Summary}
+use Rattle.nob_keeper.specs.Keep.{Keep}
+use Rattle.nob_keeper.specs.Summary.{Summary}
 use Rattle.nob_demo_spaces.specs.Endings.{HaveLeft}
 use Rattle.nob_demo_spaces.proofs.Each.{none_yet}
 use Rattle.nob_demo_spaces.proofs.playing.say_of.Goals as goal

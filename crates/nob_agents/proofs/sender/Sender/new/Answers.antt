@@ -1,5 +1,5 @@
 use Rattle.std.proofs.Common.{List, sym, subst}
-use Rattle.nob_kept.specs.declared.receipt.Receipt.{Receipt}
+use Rattle.nob_keeper.specs.Receipt.{Receipt}
 use Rattle.nob_agents.specs.Sending.{AreTied}
 use Rattle.nob_agents.proofs.sender.Sender.new.Goals as goal
 

@@ -1,6 +1,6 @@
 use Rattle.std.proofs.Common.{arith, ◌≡◌, ◌+◌, ◌<◌, ◌≤◌, ◌∷◌, ℕ, List, length, Option, Some, sym, subst}
 use Rattle.std.specs.Prelude.{◌^◌, slice_get, IfSome, MatchOption}
-use Rattle.nob_kept.specs.declared.receipt.Receipt.{Receipt}
+use Rattle.nob_keeper.specs.Receipt.{Receipt}
 use Rattle.nob_link.specs.declared.parcel.Parcel.{Parcel}
 use Rattle.nob_agents.specs.Sending.{AreTied, AllFed, fed, with_fed, parcels_to}
 use Rattle.nob_agents.proofs.Fed.{tied_after_passing, newest_is}
