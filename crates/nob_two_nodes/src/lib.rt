@@ -6,7 +6,9 @@ mod running;
 mod sides;
 
 pub use holds::{answer_to, give_back, give_back_all, look_up, offer, retire};
-pub use nob_node::{Gate, Hold, Keep, Left, Node, NodeError, Record, Report, Returned};
-pub use nob_nodes::{Beside, Company, Layout, Meeting, Nobody, Nodes, Played, Player, run_nodes};
+pub use nob_nodes::{
+    Beside, Company, Gate, Hold, Keep, Layout, Left, Meeting, Nobody, Node, NodeError, Nodes,
+    Played, Player, Record, Report, Returned, run_nodes,
+};
 pub use running::{run_two, run_two_keeping};
 pub use sides::partner_of;
