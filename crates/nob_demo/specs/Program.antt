@@ -8,13 +8,13 @@ use Rattle.nob_model_journal.specs.declared.verdict.Verdict.TheVariants.{Yes, No
 use Rattle.nob_script_text.specs.declared.ending.Ending.{Ending}
 use Rattle.nob_script_text.specs.declared.ending.Ending.TheVariants as endings
 use Rattle.nob_demo_scripts.specs.WorldScripts as worlds
-use Rattle.nob_demo_traces.specs.Checks as checks
-use Rattle.nob_demo_traces.specs.declared.checking.Ending.{Ending as CheckEnding}
-use Rattle.nob_demo_traces.specs.declared.checking.Ending.TheVariants as check_endings
-use Rattle.nob_demo_traces.specs.Draws as drawings
-use Rattle.nob_demo_traces.specs.declared.drawing.Ending.{Ending as DrawEnding}
-use Rattle.nob_demo_traces.specs.declared.drawing.Ending.TheVariants as draw_endings
-use Rattle.nob_demo_traces.specs.declared.drawing.Part.{Part}
+use Rattle.nob_demo.specs.Checks as checks
+use Rattle.nob_demo.specs.declared.checking.Ending.{Ending as CheckEnding}
+use Rattle.nob_demo.specs.declared.checking.Ending.TheVariants as check_endings
+use Rattle.nob_demo.specs.Draws as drawings
+use Rattle.nob_demo.specs.declared.drawing.Ending.{Ending as DrawEnding}
+use Rattle.nob_demo.specs.declared.drawing.Ending.TheVariants as draw_endings
+use Rattle.nob_demo.specs.declared.drawing.Part.{Part}
 use Rattle.nob_demo_spaces.specs.declared.excerpt.Excerpt.{Excerpt}
 use Rattle.nob_demo_spaces.specs.declared.command_line.Subcommand.{Subcommand}
 use Rattle.nob_demo_spaces.specs.declared.ending.Ending.{Ending as SceneEnding}

@@ -1,11 +1,16 @@
 //! The program `nobj`.
 #![tactic(auto)]
 
+mod checking;
+mod drawing;
+mod drawn;
+mod judging;
+mod place;
 mod reading;
 mod run;
+mod set;
 mod streams;
-#[cfg(test)]
-mod tests;
+mod texts;
 
 use crate::streams::{CountedReader, Sink};
 use std::alloc::Global;

@@ -5,11 +5,11 @@ ghost use Rattle.std.specs.Io.KnownBytes.{Appends};
 ghost use Rattle.nob_demo_spaces.specs.Words.{subcommand_in, word_faults, takes_words};
 ghost use Rattle.nob_demo.specs.Program.{Ended, Does, Goes, IsInput, IsReadingFault, part_of, reads_input, status_of, world_status_of, check_status_of, draw_status_of, scene_status_of};
 
+use crate::drawing::{Choice, Part};
 use crate::reading::read_all;
 use crate::streams::{CountedReader, Sink};
 use nob_demo_scripts::pair_script::Outcome;
 use nob_demo_spaces::{Excerpt, Fault, Subcommand, judge};
-use nob_demo_traces::drawing::{Choice, Part};
 use nob_model_journal::Verdict;
 use nob_script_text::Ending;
 use std::alloc::Global;
@@ -163,11 +163,11 @@ fn play<H: Threads + Wait + Sync>(
             (ending.last_line(), world_status_of(ending))
         }
         Subcommand::Check => {
-            let ending = nob_demo_traces::checking::play(alloc, input, text);
+            let ending = crate::checking::play(alloc, input, text);
             (ending.last_line(), check_status_of(ending))
         }
         Subcommand::Draw(excerpt) => {
-            let ending = nob_demo_traces::drawing::play(alloc, input, part_of(excerpt), text);
+            let ending = crate::drawing::play(alloc, input, part_of(excerpt), text);
             (ending.last_line(), draw_status_of(ending))
         }
         Subcommand::Spaces(scene) => {
@@ -208,24 +208,24 @@ fn scene_status_of(ending: nob_demo_spaces::Ending) -> u8
 }
 
 // The status that a drawing of traces ends with.
-fn draw_status_of(ending: nob_demo_traces::drawing::Ending) -> u8
+fn draw_status_of(ending: crate::drawing::Ending) -> u8
     ensures { result ≡ draw_status_of ending }
 {
     match ending {
-        nob_demo_traces::drawing::Ending::Drawn => 0,
-        nob_demo_traces::drawing::Ending::Refused => 1,
-        nob_demo_traces::drawing::Ending::OutOfMemory => 1,
+        crate::drawing::Ending::Drawn => 0,
+        crate::drawing::Ending::Refused => 1,
+        crate::drawing::Ending::OutOfMemory => 1,
     }
 }
 
 // The status that a check of traces ends with.
-fn check_status_of(ending: nob_demo_traces::checking::Ending) -> u8
+fn check_status_of(ending: crate::checking::Ending) -> u8
     ensures { result ≡ check_status_of ending }
 {
     match ending {
-        nob_demo_traces::checking::Ending::Accepted => 0,
-        nob_demo_traces::checking::Ending::Refused => 1,
-        nob_demo_traces::checking::Ending::OutOfMemory => 1,
+        crate::checking::Ending::Accepted => 0,
+        crate::checking::Ending::Refused => 1,
+        crate::checking::Ending::OutOfMemory => 1,
     }
 }
 

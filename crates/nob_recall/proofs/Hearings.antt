@@ -14,8 +14,8 @@ use Rattle.nob_model_types.specs.declared.entry.Entry.{Entry}
 use Rattle.nob_model_types.specs.declared.event.Event.{Event}
 use Rattle.nob_model_types.specs.declared.event.Event.TheVariants as events
 use Rattle.nob_model_types.specs.declared.refusal.Refusal.{Refusal}
-use Rattle.nob_model_watch.specs.declared.heard.Heard.{Heard}
-use Rattle.nob_model_watch.specs.Hearing.{heard, heard_by, no_word}
+use Rattle.nob_recall.specs.declared.heard.Heard.{Heard}
+use Rattle.nob_recall.specs.Hearing.{heard, heard_by, no_word}
 use Rattle.nob_recall.specs.Tables.{TableStands, IsAbout, row_of}
 
 get_set_other : {A : Type 0} (xs : List A) (i j : ℕ) (y : A) → (j ≡ i → ⊥) → slice_get (set xs i y) j ≡ slice_get xs j

@@ -1,2 +1,4 @@
 pub mod Hearings
 pub mod Recalling
+pub mod Forgetting
+pub mod Dues

@@ -6,8 +6,8 @@ use Rattle.nob_frame.specs.declared.frame.Frame.{Frame}
 use Rattle.nob_model_types.specs.Deeds.{deed_in}
 use Rattle.nob_model_types.specs.declared.entry.Entry.{Entry}
 use Rattle.nob_model_journal.specs.Journals.{frames_of}
-use Rattle.nob_model_watch.specs.declared.memory.Memory.{Memory}
-use Rattle.nob_model_watch.specs.Remembering.{IsIn, memory, noted, is_due, turned, turned_if_due, is_past_in}
+use Rattle.nob_recall.specs.declared.memory.Memory.{Memory}
+use Rattle.nob_recall.specs.Remembering.{IsIn, memory, noted, is_due, turned, turned_if_due, is_past_in}
 use Rattle.nob_recall.specs.Tables.{TableStands}
 use Rattle.nob_recall.specs.Recalls.{Recalled, Recalls}
 

@@ -1,3 +1,9 @@
-pub use Rattle.nob_model_watch.specs.Remembering
 pub mod Tables
 pub mod Recalls
+pub use Rattle.nob_model_journal.specs.Runs
+pub mod Hearing
+pub mod Remembering
+pub mod Next
+pub mod Laws
+pub mod Dues
+pub mod Orders

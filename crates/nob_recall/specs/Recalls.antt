@@ -1,9 +1,9 @@
 -- What is kept of the frames that were transmitted, as contracts see it.
 use Rattle.std.specs.Prelude.{◌≡◌, ℕ, List}
 use Rattle.nob_model_types.specs.declared.entry.Entry.{Entry}
-use Rattle.nob_model_watch.specs.declared.heard.Heard.{Heard}
-use Rattle.nob_model_watch.specs.declared.memory.Memory.{Memory}
-use Rattle.nob_model_watch.specs.Remembering.{memory}
+use Rattle.nob_recall.specs.declared.heard.Heard.{Heard}
+use Rattle.nob_recall.specs.declared.memory.Memory.{Memory}
+use Rattle.nob_recall.specs.Remembering.{memory}
 use Rattle.nob_recall.specs.Tables.{TableStands}
 
 -- after how many noted frames a turn comes; the frames that are remembered; what each space has heard of each other; and for how many frames more there is room

@@ -5,8 +5,8 @@ use Rattle.nob_model_types.specs.declared.answer.Answer.{Answer}
 use Rattle.nob_model_types.specs.declared.entry.Entry.{Entry}
 use Rattle.nob_model_types.specs.declared.event.Event.{Event}
 use Rattle.nob_model_types.specs.declared.refusal.Refusal.{Refusal}
-use Rattle.nob_model_watch.specs.declared.heard.Heard.{Heard}
-use Rattle.nob_model_watch.specs.Hearing.{heard, heard_by}
+use Rattle.nob_recall.specs.declared.heard.Heard.{Heard}
+use Rattle.nob_recall.specs.Hearing.{heard, heard_by}
 
 -- so many rows has the table
 abbrev pub rows : ℕ

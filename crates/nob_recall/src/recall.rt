@@ -6,14 +6,14 @@ ghost use Rattle.std.specs.Vec.{vec_len, vec_capacity};
 ghost use Rattle.nob_model_types.specs.Deeds.{deed_in};
 ghost use Rattle.nob_model_types.specs.declared.entry.Entry.{Entry as EntryOf};
 ghost use Rattle.nob_model_journal.specs.Journals.{frames_of};
-ghost use Rattle.nob_model_watch.specs.Remembering as remembering;
+ghost use Rattle.nob_recall.specs.Remembering as remembering;
 ghost use Rattle.nob_recall.specs.Recalls as words;
 ghost use Rattle.nob_recall.specs.Tables as tables;
 
 use crate::table::{hear, heard_in, new_table};
+use crate::{Heard, is_past};
 use nob_frame::Frame;
 use nob_model::{Entry, same_frame};
-use nob_model_watch::{Heard, is_past};
 use std::alloc::{AllocError, Global};
 use std::marker::Model;
 use std::mem;

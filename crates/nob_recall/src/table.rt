@@ -3,12 +3,12 @@
 ghost use Rattle.std.specs.Prelude.{◌≡◌, ◌<◌, ◌∷◌, [], List, IfOk, length};
 ghost use Rattle.nob_ids.specs.Names.{IsSpace};
 ghost use Rattle.nob_model_types.specs.declared.entry.Entry.{Entry as EntryOf};
-ghost use Rattle.nob_model_watch.specs.Hearing as hearing;
+ghost use Rattle.nob_recall.specs.Hearing as hearing;
 ghost use Rattle.nob_recall.specs.Tables as words;
 
+use crate::{Heard, heard_by, no_word};
 use nob_ids::SpaceId;
 use nob_model::{Entry, Event};
-use nob_model_watch::{Heard, heard_by, no_word};
 use std::alloc::{AllocError, Global};
 
 /// The number of rows in the table: one for each pair of spaces that there may be.

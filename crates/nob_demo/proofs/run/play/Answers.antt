@@ -1,8 +1,8 @@
 use Rattle.std.proofs.Common.{ℕ, List, ◌++◌, subst, sym}
 use Rattle.nob_demo_spaces.specs.declared.command_line.Subcommand.{Subcommand}
-use Rattle.nob_demo_traces.specs.Checks as checks
-use Rattle.nob_demo_traces.specs.Draws as drawings
-use Rattle.nob_demo_traces.specs.declared.drawing.Part.{Part}
+use Rattle.nob_demo.specs.Checks as checks
+use Rattle.nob_demo.specs.Draws as drawings
+use Rattle.nob_demo.specs.declared.drawing.Part.{Part}
 use Rattle.nob_demo.specs.Program.{Does, part_of}
 use Rattle.nob_demo.proofs.run.play.Goals as goal
 

@@ -1,7 +1,7 @@
 use Rattle.std.proofs.Common.{not, rules}
 use Rattle.std.proofs.lemmas.Fn.{filter_same}
 use Rattle.nob_frame.specs.declared.frame.Frame.{Frame}
-use Rattle.nob_model_watch.specs.Remembering.{is_past_in}
+use Rattle.nob_recall.specs.Remembering.{is_past_in}
 use Rattle.nob_recall.proofs.recall.forget.Goals as goal
 
 pub returns : goal.returns

@@ -2,7 +2,7 @@ use Rattle.std.proofs.Common.{◌≡◌, ◌<◌, ◌∷◌, List, length, Some,
 use Rattle.std.proofs.lemmas.Bool.Decides.{nat_tests}
 use lib.ListN.{set}
 use Rattle.nob_model_traces.proofs.Entering.{read}
-use Rattle.nob_model_watch.specs.declared.heard.Heard.{Heard}
+use Rattle.nob_recall.specs.declared.heard.Heard.{Heard}
 use Rattle.nob_recall.specs.Tables.{TableStands}
 use Rattle.nob_recall.proofs.Hearings.{stands_heard}
 use Rattle.nob_recall.proofs.table.hear_of.Goals as goal

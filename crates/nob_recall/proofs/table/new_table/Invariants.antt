@@ -1,5 +1,5 @@
 use Rattle.std.proofs.Common.{◌≡◌, ◌<◌, ◌≤◌, ◌-◌, ℕ, length, Some, slice_get}
-use Rattle.nob_model_watch.specs.Hearing.{no_word}
+use Rattle.nob_recall.specs.Hearing.{no_word}
 use Rattle.nob_recall.proofs.table.new_table.Given as goal
 
 -- nothing was heard by any row so far

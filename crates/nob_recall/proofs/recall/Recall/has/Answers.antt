@@ -1,7 +1,7 @@
 use Rattle.std.proofs.Common.{◌≡◌, ◌↔◌, true, List, subst}
 use Rattle.std.specs.List.{Contains}
 use Rattle.nob_frame.specs.declared.frame.Frame.{Frame}
-use Rattle.nob_model_watch.specs.Remembering.{IsIn}
+use Rattle.nob_recall.specs.Remembering.{IsIn}
 use Rattle.nob_recall.specs.Recalls.{Recalled}
 use Rattle.nob_recall.proofs.Recalling.{has_either}
 use Rattle.nob_recall.proofs.recall.Recall.has.Goals as goal

@@ -1,8 +1,8 @@
 use Rattle.std.proofs.Common.{◌-◌, ◌<◌, ◌≤◌, ◌∷◌, List, length, sym, subst, refl, arith}
 use Rattle.std.proofs.lemmas.Bool.Decides.{nat_tests}
 use Rattle.nob_frame.specs.declared.frame.Frame.{Frame}
-use Rattle.nob_model_watch.specs.declared.heard.Heard.{Heard}
-use Rattle.nob_model_watch.specs.Remembering.{is_past_in}
+use Rattle.nob_recall.specs.declared.heard.Heard.{Heard}
+use Rattle.nob_recall.specs.Remembering.{is_past_in}
 use Rattle.nob_recall.specs.Tables.{TableStands}
 use Rattle.nob_recall.specs.Recalls.{Recalls}
 use Rattle.nob_recall.proofs.Recalling.{recalls_more, turned_now, still_now}

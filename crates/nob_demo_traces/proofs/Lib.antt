@@ -1,3 +1,0 @@
-pub mod WrittenChecks
-pub mod WrittenDrawings
-pub mod Judged
