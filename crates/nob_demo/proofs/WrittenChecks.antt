@@ -17,8 +17,8 @@ use Rattle.nob_model_chains.specs.declared.fault.SetError.{SetError}
 use Rattle.nob_model_chains.specs.declared.fault.SetError.TheVariants as set_errors
 use Rattle.nob_model_chains.specs.Faults.{IsChecked, AreAccepted}
 use Rattle.nob_demo.specs.Checks.{Checks, merged_line, fault_line, last_line}
-use Rattle.nob_demo.specs.declared.checking.Ending.{Ending}
-use Rattle.nob_demo.specs.declared.checking.Ending.TheVariants.{Accepted, Refused}
+use Rattle.nob_demo.specs.declared.checking.CheckEnding.{CheckEnding}
+use Rattle.nob_demo.specs.declared.checking.CheckEnding.TheVariants.{Accepted, Refused}
 
 -- the line of accepted chains, and the verdict
 pub accepted_written : (input : List ℕ) (chains : List ChainParts) (merged : List Entry) (line : List ℕ) → AreSpelt input chains → AreAccepted chains merged → IsSafe (length chains) (reverse merged) → line ≡ merged_line (length merged) → Checks input (line ++ last_line Accepted) Accepted
@@ -33,5 +33,5 @@ pub unread_written : (input : List ℕ) (fault : ChainFault) (line : List ℕ) (
 unread_written input fault line error error_is wrong is = Checks.unread fault (subst (Explains (IsWrongInput input)) error_is wrong) (append-nil line ∙ is) refl
 
 -- behind an empty text a line is as it is alone
-pub behind_nothing : (input line old new : List ℕ) (ending : Ending) → old ≡ [] → new ≡ old ++ line → Checks input (line ++ last_line ending) ending → Checks input (new ++ last_line ending) ending
+pub behind_nothing : (input line old new : List ℕ) (ending : CheckEnding) → old ≡ [] → new ≡ old ++ line → Checks input (line ++ last_line ending) ending → Checks input (new ++ last_line ending) ending
 behind_nothing input line old new ending empty is checks = subst (λ (text : List ℕ). Checks input (text ++ last_line ending) ending) (sym (is ∙ ap (λ (text : List ℕ). text ++ line) empty)) checks

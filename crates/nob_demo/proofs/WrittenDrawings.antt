@@ -28,8 +28,8 @@ use Rattle.nob_drawing.specs.declared.shape.Shape.{Shape}
 use Rattle.nob_drawing.specs.Writing.{svg_text}
 use Rattle.nob_demo.specs.Judging.{IsJudged}
 use Rattle.nob_demo.specs.Draws.{Draws, page_of, row_of, spaces_of, svg_of, last_line}
-use Rattle.nob_demo.specs.declared.drawing.Ending.{Ending}
-use Rattle.nob_demo.specs.declared.drawing.Ending.TheVariants.{Drawn, Refused}
+use Rattle.nob_demo.specs.declared.drawing.DrawEnding.{DrawEnding}
+use Rattle.nob_demo.specs.declared.drawing.DrawEnding.TheVariants.{Drawn, Refused}
 use Rattle.nob_demo.specs.declared.drawing.Part.{Part}
 
 -- of the first so many rows no more are drawn
@@ -84,5 +84,5 @@ pub unread_written : (input : List ℕ) (part : Part) (fault : ChainFault) (line
 unread_written input part fault line error error_is wrong is = Draws.unread fault (subst (Explains (IsWrongInput input)) error_is wrong) (append-nil line ∙ is) refl
 
 -- behind an empty text a line is as it is alone
-pub behind_nothing : (input : List ℕ) (part : Part) (line old new : List ℕ) (ending : Ending) → old ≡ [] → new ≡ old ++ line → Draws input part (line ++ last_line ending) ending → Draws input part (new ++ last_line ending) ending
+pub behind_nothing : (input : List ℕ) (part : Part) (line old new : List ℕ) (ending : DrawEnding) → old ≡ [] → new ≡ old ++ line → Draws input part (line ++ last_line ending) ending → Draws input part (new ++ last_line ending) ending
 behind_nothing input part line old new ending empty is draws = subst (λ (text : List ℕ). Draws input part (text ++ last_line ending) ending) (sym (is ∙ ap (λ (text : List ℕ). text ++ line) empty)) draws

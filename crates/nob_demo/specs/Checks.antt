@@ -15,8 +15,8 @@ use Rattle.nob_model_invariant.specs.Safe.{IsSafe}
 use Rattle.nob_model_chains.specs.declared.fault.SetFault.{SetFault}
 use Rattle.nob_model_chains.specs.declared.fault.SetFault.TheVariants as sets
 use Rattle.nob_model_chains.specs.Faults.{IsFault, AreAccepted}
-use Rattle.nob_demo.specs.declared.checking.Ending.{Ending}
-use Rattle.nob_demo.specs.declared.checking.Ending.TheVariants.{Accepted, Refused, OutOfMemory}
+use Rattle.nob_demo.specs.declared.checking.CheckEnding.{CheckEnding}
+use Rattle.nob_demo.specs.declared.checking.CheckEnding.TheVariants.{Accepted, Refused, OutOfMemory}
 
 -- the line that says how many entries were merged
 abbrev pub merged_line : ℕ → List ℕ
@@ -39,13 +39,13 @@ fault_line (sets.Traces fault) = trace_fault_line fault
 fault_line (sets.Seal space number) = codes "C5 " ++ place_text space number
 
 -- the last line behind what was written before
-abbrev pub last_line : Ending → List ℕ
+abbrev pub last_line : CheckEnding → List ℕ
 last_line Accepted = verdict_line Yes
 last_line Refused = codes ""
 last_line OutOfMemory = codes "memory\n"
 
 -- what is written for an input, and how the check of it ends
-pub data Checks (input text : List ℕ) (ending : Ending) : Type 0 where
+pub data Checks (input text : List ℕ) (ending : CheckEnding) : Type 0 where
   -- the chains that the input is are a run of a world, of which all is proved that is proved of such runs: so the verdict is yes
   accepted : (chains : List ChainParts) (merged : List Entry) → AreSpelt input chains → AreAccepted chains merged → IsSafe (length chains) (reverse merged) → text ≡ merged_line (length merged) ++ verdict_line Yes → ending ≡ Accepted → Checks input text ending
   -- something is wrong with the chains that the input is

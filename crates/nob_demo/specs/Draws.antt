@@ -19,12 +19,12 @@ use Rattle.nob_drawing.specs.declared.page.Page.{Page}
 use Rattle.nob_drawing.specs.Layout.{drawing, width_of, height_of}
 use Rattle.nob_drawing.specs.Writing.{svg_text}
 use Rattle.nob_demo.specs.Judging.{IsWrongEntry}
-use Rattle.nob_demo.specs.declared.drawing.Ending.{Ending}
-use Rattle.nob_demo.specs.declared.drawing.Ending.TheVariants.{Drawn, Refused, OutOfMemory}
+use Rattle.nob_demo.specs.declared.drawing.DrawEnding.{DrawEnding}
+use Rattle.nob_demo.specs.declared.drawing.DrawEnding.TheVariants.{Drawn, Refused, OutOfMemory}
 use Rattle.nob_demo.specs.declared.drawing.Part.{Part}
 
 -- the last line behind what was written before
-abbrev pub last_line : Ending → List ℕ
+abbrev pub last_line : DrawEnding → List ℕ
 last_line Drawn = codes ""
 last_line Refused = codes ""
 last_line OutOfMemory = codes "memory\n"
@@ -67,7 +67,7 @@ unfoldable pub svg_of : ℕ → Part → (accepted : Bool) → Option ℕ → Li
 svg_of n part accepted fault J = svg_on (page_of n part accepted fault (places_in n part.choice fault J) J) n part fault J
 
 -- what is written for an input, and how it ends
-pub data Draws (input : List ℕ) (part : Part) (text : List ℕ) (ending : Ending) : Type 0 where
+pub data Draws (input : List ℕ) (part : Part) (text : List ℕ) (ending : DrawEnding) : Type 0 where
   -- the chains that the input is are a run of a world, and their entries are drawn: each arrival has its arrow
   drawn : (chains : List ChainParts) (merged : List Entry) → AreSpelt input chains → AreAccepted chains merged → HaveArrows (reverse merged) → text ≡ svg_of (spaces_of chains) part true None (reverse merged) → ending ≡ Drawn → Draws input part text ending
   -- an entry of the chains that the input is is wrong, or the seal behind it: all are drawn, and that one in red

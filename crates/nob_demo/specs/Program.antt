@@ -1,24 +1,24 @@
 -- What a run of the program does, where its reader and its writers tell their bytes.
 use Rattle.std.specs.Prelude.{◌≡◌, ℕ, ◌^◌, ◌<◌, ◌≤◌, ◌+◌, Bool, true, false, List, [], length, Option, IfSome, Result, Ok, Err, codes}
 use Rattle.std.specs.Io.KnownBytes.{Appends, Keeps}
-use Rattle.nob_demo_scripts.specs.declared.pair_script.Outcome.{Outcome}
-use Rattle.nob_demo_scripts.specs.declared.pair_script.Outcome.TheVariants.{Fronts, BadStep, OutOfMemory}
+use Rattle.nob_demo_scripts.specs.declared.pair_script.PairEnding.{PairEnding}
+use Rattle.nob_demo_scripts.specs.declared.pair_script.PairEnding.TheVariants.{Fronts, BadStep, OutOfMemory}
 use Rattle.nob_demo_scripts.specs.PairScripts.{Plays}
 use Rattle.nob_model_journal.specs.declared.verdict.Verdict.TheVariants.{Yes, No}
 use Rattle.nob_script_text.specs.declared.ending.Ending.{Ending}
 use Rattle.nob_script_text.specs.declared.ending.Ending.TheVariants as endings
 use Rattle.nob_demo_scripts.specs.WorldScripts as worlds
 use Rattle.nob_demo.specs.Checks as checks
-use Rattle.nob_demo.specs.declared.checking.Ending.{Ending as CheckEnding}
-use Rattle.nob_demo.specs.declared.checking.Ending.TheVariants as check_endings
+use Rattle.nob_demo.specs.declared.checking.CheckEnding.{CheckEnding}
+use Rattle.nob_demo.specs.declared.checking.CheckEnding.TheVariants as check_endings
 use Rattle.nob_demo.specs.Draws as drawings
-use Rattle.nob_demo.specs.declared.drawing.Ending.{Ending as DrawEnding}
-use Rattle.nob_demo.specs.declared.drawing.Ending.TheVariants as draw_endings
+use Rattle.nob_demo.specs.declared.drawing.DrawEnding.{DrawEnding}
+use Rattle.nob_demo.specs.declared.drawing.DrawEnding.TheVariants as draw_endings
 use Rattle.nob_demo.specs.declared.drawing.Part.{Part}
 use Rattle.nob_demo_spaces.specs.declared.excerpt.Excerpt.{Excerpt}
 use Rattle.nob_demo_spaces.specs.declared.command_line.Subcommand.{Subcommand}
-use Rattle.nob_demo_spaces.specs.declared.ending.Ending.{Ending as SceneEnding}
-use Rattle.nob_demo_spaces.specs.declared.ending.Ending.TheVariants as scene_endings
+use Rattle.nob_demo_spaces.specs.declared.ending.SceneEnding.{SceneEnding}
+use Rattle.nob_demo_spaces.specs.declared.ending.SceneEnding.TheVariants as scene_endings
 use Rattle.nob_demo_spaces.specs.Endings as scenes
 use Rattle.nob_demo_spaces.specs.declared.command_line.Subcommand.TheVariants.{Pair, Script, Check, Draw, Spaces}
 use Rattle.nob_demo_spaces.specs.declared.fault.Fault.{Fault}
@@ -77,7 +77,7 @@ IsReadingFault Memory r = IsPart r
 IsReadingFault Write r = ⊥
 
 -- the status that the run of a pair's script ends with: 0 where the last line says yes
-abbrev pub status_of : Outcome → ℕ
+abbrev pub status_of : PairEnding → ℕ
 status_of Fronts = 0
 status_of BadStep = 1
 status_of OutOfMemory = 1
@@ -129,7 +129,7 @@ part_of excerpt = record { from = excerpt.from; to = excerpt.to; choice = record
 
 -- what a subcommand writes for an input, and its status; the verdict is never no. Of a scene: what may be written of some score, some traces and some summaries
 abbrev pub Does : Subcommand → (input text : List ℕ) → (status : ℕ) → Type 0
-Does Pair input text status = (outcome : Outcome) × Plays input text outcome × (status ≡ status_of outcome)
+Does Pair input text status = (outcome : PairEnding) × Plays input text outcome × (status ≡ status_of outcome)
 Does Script input text status = (ending : Ending) × worlds.Plays input text ending × worlds.SaysYes ending × (status ≡ world_status_of ending)
 Does Check input text status = (ending : CheckEnding) × checks.Checks input text ending × (status ≡ check_status_of ending)
 Does (Draw excerpt) input text status = (ending : DrawEnding) × drawings.Draws input (part_of excerpt) text ending × (status ≡ draw_status_of ending)

@@ -18,7 +18,7 @@ use std::alloc::{AllocError, Global};
 
 /// How drawing ends.
 #[derive(Clone, Copy, Debug, PartialEq, Eq)]
-pub enum Ending {
+pub enum DrawEnding {
     /// The chains are a run of a world, their seals are right, and they were drawn.
     Drawn,
     /// They aren't: the entry that is wrong, or the one in front of a wrong seal, is drawn in red.
@@ -28,15 +28,15 @@ pub enum Ending {
     OutOfMemory,
 }
 
-impl Ending {
+impl DrawEnding {
     /// The last line, behind what was written before.
     pub fn last_line(self) -> &'static [u8]
         ensures { result.now ≡ spec.last_line self }
     {
         match self {
-            Ending::Drawn => b"",
-            Ending::Refused => b"",
-            Ending::OutOfMemory => b"memory\n",
+            DrawEnding::Drawn => b"",
+            DrawEnding::Refused => b"",
+            DrawEnding::OutOfMemory => b"memory\n",
         }
     }
 }
@@ -56,21 +56,21 @@ pub struct Part {
 /// empty text; or, where it is neither or they don't belong together, the line that `nobj check`
 /// writes. The ending's last line is still to follow. It costs what a pass over the entries does,
 /// and a comparison of each frame that arrives with those that were given.
-pub fn play(alloc: Global, input: &[u8], part: Part, text: &mut Vec<u8>) -> Ending
+pub fn play(alloc: Global, input: &[u8], part: Part, text: &mut Vec<u8>) -> DrawEnding
     requires { text.old.items ≡ [] }
     ensures { spec.Draws input.now part (text.new.items ++ spec.last_line result) result }
 {
     let Ok((bytes, ending)) = bytes_of(alloc, input, part) else {
-        return Ending::OutOfMemory;
+        return DrawEnding::OutOfMemory;
     };
     match text.extend_from_slice(bytes.as_slice()) {
         Ok(()) => ending,
-        Err(_) => Ending::OutOfMemory,
+        Err(_) => DrawEnding::OutOfMemory,
     }
 }
 
 // What is written for an input, and how it ends.
-fn bytes_of(alloc: Global, input: &[u8], part: Part) -> Result<(Vec<u8>, Ending), AllocError>
+fn bytes_of(alloc: Global, input: &[u8], part: Part) -> Result<(Vec<u8>, DrawEnding), AllocError>
     ensures { IfOk result (λ said. spec.Draws input.now part
         (said.0.items ++ spec.last_line said.1) said.1) }
 {
@@ -79,7 +79,7 @@ fn bytes_of(alloc: Global, input: &[u8], part: Part) -> Result<(Vec<u8>, Ending)
         Err(ChainError::OutOfMemory) => Err(AllocError),
         Err(ChainError::Fault(fault)) => Ok((
             refusal_line(ChainError::Fault(fault)).to_vec(alloc)?,
-            Ending::Refused,
+            DrawEnding::Refused,
         )),
     }
 }
@@ -89,12 +89,12 @@ fn bytes_of_chains(
     alloc: Global,
     chains: Vec<Chain>,
     part: Part,
-) -> Result<(Vec<u8>, Ending), AllocError>
+) -> Result<(Vec<u8>, DrawEnding), AllocError>
     ensures { (input : List ℕ) → AreSpelt input chains.items → IfOk result (λ said.
         spec.Draws input part (said.0.items ++ spec.last_line said.1) said.1) }
 {
     if !are_one_each(chains.as_slice()) {
-        return Ok((b"C4\n".as_slice().to_vec(alloc)?, Ending::Refused));
+        return Ok((b"C4\n".as_slice().to_vec(alloc)?, DrawEnding::Refused));
     }
     let n = spaces_of(chains.as_slice());
     let (merged, wrong) = judged(alloc, chains)?;
@@ -108,7 +108,7 @@ fn bytes_of_entries(
     part: Part,
     merged: Vec<Entry>,
     wrong: Option<WrongEntry>,
-) -> Result<(Vec<u8>, Ending), AllocError>
+) -> Result<(Vec<u8>, DrawEnding), AllocError>
     ensures { (input : List ℕ) (chains : List Parts) → AreSpelt input chains
         → IsJudged chains merged.items wrong → n ≡ spec.spaces_of chains
         → IfOk result (λ said.
@@ -117,8 +117,8 @@ fn bytes_of_entries(
     match wrong {
         Some(entry) => {
             let bytes = drawn_wrong(alloc, n, part, entry, merged)?;
-            Ok((bytes, Ending::Refused))
+            Ok((bytes, DrawEnding::Refused))
         }
-        None => Ok((drawn(alloc, n, part, merged)?, Ending::Drawn)),
+        None => Ok((drawn(alloc, n, part, merged)?, DrawEnding::Drawn)),
     }
 }

@@ -5,11 +5,12 @@ ghost use Rattle.std.specs.Io.KnownBytes.{Appends};
 ghost use Rattle.nob_demo_spaces.specs.Words.{subcommand_in, word_faults, takes_words};
 ghost use Rattle.nob_demo.specs.Program.{Ended, Does, Goes, IsInput, IsReadingFault, part_of, reads_input, status_of, world_status_of, check_status_of, draw_status_of, scene_status_of};
 
-use crate::drawing::{Choice, Part};
+use crate::checking::CheckEnding;
+use crate::drawing::{Choice, DrawEnding, Part};
 use crate::reading::read_all;
 use crate::streams::{CountedReader, Sink};
-use nob_demo_scripts::pair_script::Outcome;
-use nob_demo_spaces::{Excerpt, Fault, Subcommand, judge};
+use nob_demo_scripts::pair_script::PairEnding;
+use nob_demo_spaces::{Excerpt, Fault, SceneEnding, Subcommand, judge};
 use nob_model_journal::Verdict;
 use nob_script_text::Ending;
 use std::alloc::Global;
@@ -194,38 +195,38 @@ fn part_of(excerpt: Excerpt) -> Part
 }
 
 // The status that the play of a scene ends with.
-fn scene_status_of(ending: nob_demo_spaces::Ending) -> u8
+fn scene_status_of(ending: SceneEnding) -> u8
     ensures { result ≡ scene_status_of ending }
 {
     match ending {
-        nob_demo_spaces::Ending::Accepted => 0,
-        nob_demo_spaces::Ending::Refused => 1,
-        nob_demo_spaces::Ending::Printed => 0,
-        nob_demo_spaces::Ending::Unchecked => 0,
-        nob_demo_spaces::Ending::Full => 1,
-        nob_demo_spaces::Ending::OutOfMemory => 1,
+        SceneEnding::Accepted => 0,
+        SceneEnding::Refused => 1,
+        SceneEnding::Printed => 0,
+        SceneEnding::Unchecked => 0,
+        SceneEnding::Full => 1,
+        SceneEnding::OutOfMemory => 1,
     }
 }
 
 // The status that a drawing of traces ends with.
-fn draw_status_of(ending: crate::drawing::Ending) -> u8
+fn draw_status_of(ending: DrawEnding) -> u8
     ensures { result ≡ draw_status_of ending }
 {
     match ending {
-        crate::drawing::Ending::Drawn => 0,
-        crate::drawing::Ending::Refused => 1,
-        crate::drawing::Ending::OutOfMemory => 1,
+        DrawEnding::Drawn => 0,
+        DrawEnding::Refused => 1,
+        DrawEnding::OutOfMemory => 1,
     }
 }
 
 // The status that a check of traces ends with.
-fn check_status_of(ending: crate::checking::Ending) -> u8
+fn check_status_of(ending: CheckEnding) -> u8
     ensures { result ≡ check_status_of ending }
 {
     match ending {
-        crate::checking::Ending::Accepted => 0,
-        crate::checking::Ending::Refused => 1,
-        crate::checking::Ending::OutOfMemory => 1,
+        CheckEnding::Accepted => 0,
+        CheckEnding::Refused => 1,
+        CheckEnding::OutOfMemory => 1,
     }
 }
 
@@ -242,13 +243,13 @@ fn world_status_of(ending: Ending) -> u8
 }
 
 // The status that the run of a pair's script ends with.
-fn status_of(outcome: Outcome) -> u8
+fn status_of(outcome: PairEnding) -> u8
     ensures { result ≡ status_of outcome }
 {
     match outcome {
-        Outcome::Fronts => 0,
-        Outcome::BadStep => 1,
-        Outcome::OutOfMemory => 1,
+        PairEnding::Fronts => 0,
+        PairEnding::BadStep => 1,
+        PairEnding::OutOfMemory => 1,
     }
 }
 

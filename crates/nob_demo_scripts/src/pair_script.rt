@@ -17,7 +17,7 @@ use std::alloc::{AllocError, Global};
 
 /// How a script ended.
 #[derive(Clone, Copy, Debug)]
-pub enum Outcome {
+pub enum PairEnding {
     /// Every line was a step, and the fronts hold.
     Fronts,
     /// A line was none, and the run ended there.
@@ -26,15 +26,15 @@ pub enum Outcome {
     OutOfMemory,
 }
 
-impl Outcome {
+impl PairEnding {
     /// What is still to be written after a script's text: the line `memory` where memory ran out.
     pub fn last_line(self) -> &'static [u8]
         ensures { result.now ≡ last_line self }
     {
         match self {
-            Outcome::Fronts => b"",
-            Outcome::BadStep => b"",
-            Outcome::OutOfMemory => b"memory\n",
+            PairEnding::Fronts => b"",
+            PairEnding::BadStep => b"",
+            PairEnding::OutOfMemory => b"memory\n",
         }
     }
 }
@@ -42,23 +42,23 @@ impl Outcome {
 /// Writes what a pair script gives onto an empty text: its first line, each line with its answer,
 /// and then that the fronts hold, or the first line that is no step. The outcome's last line is
 /// still to follow.
-pub fn play(alloc: Global, script: &[u8], text: &mut Vec<u8>) -> Outcome
+pub fn play(alloc: Global, script: &[u8], text: &mut Vec<u8>) -> PairEnding
     requires { text.old.items ≡ [] }
     ensures plays { Plays script.now (text.new.items ++ last_line result) result }
 {
     match play_script(alloc, script, text) {
         Ok(outcome) => outcome,
-        Err(AllocError) => Outcome::OutOfMemory,
+        Err(AllocError) => PairEnding::OutOfMemory,
     }
 }
 
 // The same, but that memory may run out beside the steps.
-fn play_script(alloc: Global, script: &[u8], text: &mut Vec<u8>) -> Result<Outcome, AllocError>
+fn play_script(alloc: Global, script: &[u8], text: &mut Vec<u8>) -> Result<PairEnding, AllocError>
     requires { text.old.items ≡ [] }
     ensures ok { IfOk result (λ outcome.
         Plays script.now (text.new.items ++ last_line outcome) outcome) }
     ensures err { OnErr result (Plays script.now
-        (text.new.items ++ last_line Outcome.OutOfMemory) Outcome.OutOfMemory) }
+        (text.new.items ++ last_line PairEnding.OutOfMemory) PairEnding.OutOfMemory) }
 {
     let Some((header, steps)) = first_line(script) else {
         return bad_step(alloc, text, 1);
@@ -72,13 +72,13 @@ fn play_from(
     header: &[u8],
     steps: &[u8],
     text: &mut Vec<u8>,
-) -> Result<Outcome, AllocError>
+) -> Result<PairEnding, AllocError>
     ensures ok { IfOk result (λ outcome.
         Grows text.old.items (text.new.items ++ last_line outcome)
         (λ written. FromHeader header.now (lines_of steps.now) written outcome)) }
     ensures err { OnErr result (Grows text.old.items
-        (text.new.items ++ last_line Outcome.OutOfMemory)
-        (λ written. FromHeader header.now (lines_of steps.now) written Outcome.OutOfMemory)) }
+        (text.new.items ++ last_line PairEnding.OutOfMemory)
+        (λ written. FromHeader header.now (lines_of steps.now) written PairEnding.OutOfMemory)) }
 {
     let Some(limits) = header_of(alloc, header)? else {
         return bad_step(alloc, text, 1);
@@ -94,13 +94,13 @@ fn play_steps(
     pair: &mut Pair,
     steps: &[u8],
     text: &mut Vec<u8>,
-) -> Result<Outcome, AllocError>
+) -> Result<PairEnding, AllocError>
     ensures ok { (limits : LimitsOf) (J : List PairEntry) → PairStands limits pair.old J →
         IfOk result (λ outcome. Grows text.old.items (text.new.items ++ last_line outcome)
         (λ written. FromLines limits 2 (lines_of steps.now) J written outcome)) }
     ensures err { (limits : LimitsOf) (J : List PairEntry) → PairStands limits pair.old J →
-        OnErr result (Grows text.old.items (text.new.items ++ last_line Outcome.OutOfMemory)
-        (λ written. FromLines limits 2 (lines_of steps.now) J written Outcome.OutOfMemory)) }
+        OnErr result (Grows text.old.items (text.new.items ++ last_line PairEnding.OutOfMemory)
+        (λ written. FromLines limits 2 (lines_of steps.now) J written PairEnding.OutOfMemory)) }
 {
     let mut left = steps;
     let mut number: u64 = 2;
@@ -114,7 +114,7 @@ fn play_steps(
     // Every run of a pair has its fronts.
     laws::pair();
     text.extend_from_slice(b"fronts yes\n")?;
-    Ok(Outcome::Fronts)
+    Ok(PairEnding::Fronts)
 }
 
 // Makes the step of a line and writes it with its answer: whether the line is a step.
@@ -161,11 +161,11 @@ fn make_step(
 }
 
 // Writes that a line is no step.
-fn bad_step(alloc: Global, text: &mut Vec<u8>, line: u64) -> Result<Outcome, AllocError>
-    ensures ok { IfOk result (λ outcome. (outcome ≡ Outcome.BadStep)
+fn bad_step(alloc: Global, text: &mut Vec<u8>, line: u64) -> Result<PairEnding, AllocError>
+    ensures ok { IfOk result (λ outcome. (outcome ≡ PairEnding.BadStep)
         × (text.new.items ≡ text.old.items ++ bad_step_text line)) }
     ensures err { OnErr result (text.new.items ≡ text.old.items) }
 {
     push_bad_step(alloc, text, line)?;
-    Ok(Outcome::BadStep)
+    Ok(PairEnding::BadStep)
 }

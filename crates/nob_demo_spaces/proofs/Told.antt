@@ -20,8 +20,8 @@ use Rattle.nob_model_chains.specs.Faults.{IsChecked, AreAccepted}
 use Rattle.nob_demo_spaces.specs.Lines.{lines}
 use Rattle.nob_demo_spaces.specs.Endings.{Counts, Judges, Prints, TellsChains}
 use Rattle.nob_demo_spaces.specs.declared.score.Score.{Score}
-use Rattle.nob_demo_spaces.specs.declared.ending.Ending.{Ending}
-use Rattle.nob_demo_spaces.specs.declared.ending.Ending.TheVariants.{Refused}
+use Rattle.nob_demo_spaces.specs.declared.ending.SceneEnding.{SceneEnding}
+use Rattle.nob_demo_spaces.specs.declared.ending.SceneEnding.TheVariants.{Refused}
 
 -- the text of one chain more
 pub printed_more : (chains : List ChainParts) (i : ℕ) (item : ChainParts) (old bytes new : List ℕ) → i < length chains → item ≡ get_or chains i item → old ≡ flat_map chain_text (take i chains) → bytes ≡ chain_text item → new ≡ old ++ bytes → new ≡ flat_map chain_text (take (i + 1) chains)
@@ -48,11 +48,11 @@ pub error_printed : (chains : List ChainParts) (i : ℕ) (item : ChainParts) (fa
 error_printed chains i item fault text error below is error_is wrong said = not_printed chains i item fault text below is (subst (Refuses (IsWritable item)) error_is wrong) said
 
 -- what is said of chains that are to be checked
-judged : (prints : Bool) (score : Score) (chains : List ChainParts) (text : List ℕ) (ending : Ending) → prints ≡ false → Judges score chains text ending → TellsChains prints score chains text ending
+judged : (prints : Bool) (score : Score) (chains : List ChainParts) (text : List ℕ) (ending : SceneEnding) → prints ≡ false → Judges score chains text ending → TellsChains prints score chains text ending
 judged prints score chains text ending checks judges = subst (λ (prints : Bool). TellsChains prints score chains text ending) (sym checks) judges
 
 -- what is said of accepted chains
-pub accepted_told : (prints : Bool) (score : Score) (chains : List ChainParts) (merged : List Entry) (text : List ℕ) (ending : Ending) → prints ≡ false → AreAccepted chains merged → IsSafe (length chains) (reverse merged) → Counts score merged text ending → TellsChains prints score chains text ending
+pub accepted_told : (prints : Bool) (score : Score) (chains : List ChainParts) (merged : List Entry) (text : List ℕ) (ending : SceneEnding) → prints ≡ false → AreAccepted chains merged → IsSafe (length chains) (reverse merged) → Counts score merged text ending → TellsChains prints score chains text ending
 accepted_told prints score chains merged text ending checks right safe counts = judged prints score chains text ending checks (Judges.accepted merged right safe counts)
 
 -- the lines of refused chains

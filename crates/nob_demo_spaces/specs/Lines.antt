@@ -6,8 +6,8 @@ use Rattle.nob_ids.specs.declared.reason.Reason.{Reason}
 use Rattle.nob_keeper.specs.PeerTally.{PeerTally}
 use Rattle.nob_keeper.specs.Summary.{Summary}
 use Rattle.nob_demo_spaces.specs.declared.score.Score.{Score}
-use Rattle.nob_demo_spaces.specs.declared.ending.Ending.{Ending}
-use Rattle.nob_demo_spaces.specs.declared.ending.Ending.TheVariants.{Accepted, Refused, Printed, Unchecked, Full, OutOfMemory}
+use Rattle.nob_demo_spaces.specs.declared.ending.SceneEnding.{SceneEnding}
+use Rattle.nob_demo_spaces.specs.declared.ending.SceneEnding.TheVariants.{Accepted, Refused, Printed, Unchecked, Full, OutOfMemory}
 use Rattle.nob_demo_spaces.specs.declared.ending.Stop.{Stop}
 use Rattle.nob_demo_spaces.specs.declared.ending.Stop.TheVariants as stops
 
@@ -56,7 +56,7 @@ abbrev pub unchecked_lines : Score → List Summary → List ℕ
 unchecked_lines score summaries = calls_line score.answered ++ (total_line score.greatest ++ (codes "unchecked\n" ++ summaries_text summaries))
 
 -- the last line of a scene, behind what was written before
-abbrev pub last_line : Ending → List ℕ
+abbrev pub last_line : SceneEnding → List ℕ
 last_line Accepted = codes ""
 last_line Refused = codes ""
 last_line Printed = codes ""
@@ -65,7 +65,7 @@ last_line Full = codes "full\n"
 last_line OutOfMemory = codes "memory\n"
 
 -- how a scene ends that stops
-abbrev pub stopped : Stop → Ending
+abbrev pub stopped : Stop → SceneEnding
 stopped stops.Full = Full
 stopped stops.OutOfMemory = OutOfMemory
 

@@ -5,7 +5,7 @@ ghost use Rattle.nob_demo_spaces.specs.Lines as spec;
 
 /// How a scene ends.
 #[derive(Clone, Copy, Debug, PartialEq, Eq)]
-pub enum Ending {
+pub enum SceneEnding {
     /// The chains are together a run of a world, and their seals are right.
     Accepted,
     /// They aren't, or one that is to be printed has no text.
@@ -20,18 +20,18 @@ pub enum Ending {
     OutOfMemory,
 }
 
-impl Ending {
+impl SceneEnding {
     /// The last line, behind what was written before.
     pub fn last_line(self) -> &'static [u8]
         ensures { result.now ≡ spec.last_line self }
     {
         match self {
-            Ending::Accepted => b"",
-            Ending::Refused => b"",
-            Ending::Printed => b"",
-            Ending::Unchecked => b"",
-            Ending::Full => b"full\n",
-            Ending::OutOfMemory => b"memory\n",
+            SceneEnding::Accepted => b"",
+            SceneEnding::Refused => b"",
+            SceneEnding::Printed => b"",
+            SceneEnding::Unchecked => b"",
+            SceneEnding::Full => b"full\n",
+            SceneEnding::OutOfMemory => b"memory\n",
         }
     }
 }
@@ -47,12 +47,12 @@ pub enum Stop {
 
 impl Stop {
     /// How the scene ends then.
-    pub fn ending(self) -> Ending
+    pub fn ending(self) -> SceneEnding
         ensures { result ≡ spec.stopped self }
     {
         match self {
-            Stop::Full => Ending::Full,
-            Stop::OutOfMemory => Ending::OutOfMemory,
+            Stop::Full => SceneEnding::Full,
+            Stop::OutOfMemory => SceneEnding::OutOfMemory,
         }
     }
 }

@@ -22,7 +22,7 @@ mod texts;
 
 pub use command_line::{Subcommand, judge};
 pub use counter::Counter;
-pub use ending::{Ending, Stop, graver};
+pub use ending::{SceneEnding, Stop, graver};
 pub use excerpt::Excerpt;
 pub use fault::Fault;
 pub use playing::play;

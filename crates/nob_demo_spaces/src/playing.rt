@@ -6,7 +6,7 @@ ghost use Rattle.nob_demo_spaces.specs.Endings.{Plays, AreOfEach, AreChainsOf, A
 
 use crate::player::{ScenePlayer, players_of, stop_by};
 use crate::scene::Scene;
-use crate::{Counter, Ending, Score, Stop, graver, say};
+use crate::{Counter, SceneEnding, Score, Stop, graver, say};
 use nob_chain::Chain;
 use nob_nodes::{
     Keep, Layout, Left, Nobody, NodeError, Nodes, OpenGate, Played, Record, Report, Summary,
@@ -24,12 +24,12 @@ pub fn play<R: Threads + Wait + Sync>(
     alloc: Global,
     scene: Scene,
     text: &mut Vec<u8>,
-) -> Ending
+) -> SceneEnding
     requires { text.old.items ≡ [] }
     ensures { Plays scene (text.new.items ++ last_line result) result }
 {
     let Some(all) = run_all(rt, alloc, scene) else {
-        return Ending::OutOfMemory;
+        return SceneEnding::OutOfMemory;
     };
     say_of(alloc, scene, all, text)
 }
@@ -70,7 +70,7 @@ fn say_of(
     scene: Scene,
     all: Vec<Played<Counter, ScenePlayer>>,
     text: &mut Vec<u8>,
-) -> Ending
+) -> SceneEnding
     requires all { length all.items ≡ scene.spaces }
     requires text { text.old.items ≡ [] }
     ensures { Plays scene (text.new.items ++ last_line result) result }

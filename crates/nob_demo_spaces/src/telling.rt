@@ -4,7 +4,7 @@ ghost use Rattle.std.specs.Prelude.{◌≡◌, ◌++◌, [], None, IfOk};
 ghost use Rattle.nob_demo_spaces.specs.Endings as spec;
 ghost use Rattle.nob_demo_spaces.specs.Lines.{last_line};
 
-use crate::ending::{Ending, Stop};
+use crate::ending::{SceneEnding, Stop};
 use crate::scene::Scene;
 use crate::score::{Score, score_in};
 use crate::summaries::unchecked_lines;
@@ -29,7 +29,7 @@ pub fn say(
     chains: Vec<Chain>,
     summaries: &[Summary],
     text: &mut Vec<u8>,
-) -> Ending
+) -> SceneEnding
     requires { text.old.items ≡ [] }
     ensures { spec.Says scene stop score chains.items summaries.now
         (text.new.items ++ last_line result) result }
@@ -48,17 +48,17 @@ fn say_all(
     chains: Vec<Chain>,
     summaries: &[Summary],
     text: &mut Vec<u8>,
-) -> Ending
+) -> SceneEnding
     requires { text.old.items ≡ [] }
     ensures { spec.Ends scene score chains.items summaries.now
         (text.new.items ++ last_line result) result }
 {
     let Ok((told, ending)) = tell(alloc, scene, score, chains, summaries) else {
-        return Ending::OutOfMemory;
+        return SceneEnding::OutOfMemory;
     };
     match text.extend_from_slice(told.as_slice()) {
         Ok(()) => ending,
-        Err(_) => Ending::OutOfMemory,
+        Err(_) => SceneEnding::OutOfMemory,
     }
 }
 
@@ -69,13 +69,16 @@ fn tell(
     score: Score,
     chains: Vec<Chain>,
     summaries: &[Summary],
-) -> Result<(Vec<u8>, Ending), AllocError>
+) -> Result<(Vec<u8>, SceneEnding), AllocError>
     ensures { IfOk result (λ told.
         spec.Tells scene score chains.items summaries.now told.0.items told.1) }
 {
     match scene.keep() {
         Keep::All => tell_chains(alloc, scene.traces(), score, chains),
-        Keep::Nothing => Ok((unchecked_lines(alloc, score, summaries)?, Ending::Unchecked)),
+        Keep::Nothing => Ok((
+            unchecked_lines(alloc, score, summaries)?,
+            SceneEnding::Unchecked,
+        )),
     }
 }
 
@@ -86,7 +89,7 @@ fn tell_chains(
     prints: bool,
     score: Score,
     chains: Vec<Chain>,
-) -> Result<(Vec<u8>, Ending), AllocError>
+) -> Result<(Vec<u8>, SceneEnding), AllocError>
     ensures { IfOk result (λ told.
         spec.TellsChains prints score chains.items told.0.items told.1) }
 {
@@ -95,7 +98,7 @@ fn tell_chains(
     }
     match check(alloc, chains) {
         Ok(merged) => tell_accepted(alloc, score, &merged),
-        Err(SetError::Fault(_)) => Ok((lines(alloc, score, false)?, Ending::Refused)),
+        Err(SetError::Fault(_)) => Ok((lines(alloc, score, false)?, SceneEnding::Refused)),
         Err(SetError::OutOfMemory) => Err(AllocError),
     }
 }
@@ -105,17 +108,17 @@ fn tell_accepted(
     alloc: Global,
     score: Score,
     merged: &Merged,
-) -> Result<(Vec<u8>, Ending), AllocError>
+) -> Result<(Vec<u8>, SceneEnding), AllocError>
     ensures { IfOk result (λ told. spec.Counts score merged.now told.0.items told.1) }
 {
     if score == score_in(merged.entries()) {
-        return Ok((lines(alloc, score, true)?, Ending::Accepted));
+        return Ok((lines(alloc, score, true)?, SceneEnding::Accepted));
     }
-    Ok((lines(alloc, score, false)?, Ending::Refused))
+    Ok((lines(alloc, score, false)?, SceneEnding::Refused))
 }
 
 // Chains, one after the other, or the line of one that has no text.
-fn print(alloc: Global, chains: &[Chain]) -> Result<(Vec<u8>, Ending), AllocError>
+fn print(alloc: Global, chains: &[Chain]) -> Result<(Vec<u8>, SceneEnding), AllocError>
     ensures { IfOk result (λ told. spec.Prints chains.now told.0.items told.1) }
 {
     let mut text = Vec::new(alloc);
@@ -124,10 +127,10 @@ fn print(alloc: Global, chains: &[Chain]) -> Result<(Vec<u8>, Ending), AllocErro
             Ok(said) => text.extend_from_slice(said.as_bytes())?,
             Err(ChainError::Fault(fault)) => {
                 let line = refusal_line(ChainError::Fault(fault)).to_vec(alloc)?;
-                return Ok((line, Ending::Refused));
+                return Ok((line, SceneEnding::Refused));
             }
             Err(ChainError::OutOfMemory) => return Err(AllocError),
         }
     }
-    Ok((text, Ending::Printed))
+    Ok((text, SceneEnding::Printed))
 }
