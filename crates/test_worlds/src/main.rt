@@ -43,16 +43,22 @@ fn main(rt: HostRuntime) -> ExitCode {
 
 // Runs what the command line asks for.
 fn run(rt: &HostRuntime) -> io::Result<()> {
-    match wanted(rt)? {
-        Wanted::Each => run_each(rt, input(rt)?.as_slice()),
+    match wanted_of(rt)? {
+        Wanted::Each => {
+            let input = whole_input(rt)?;
+            run_each(rt, input.as_slice())
+        }
         Wanted::One(Test::Births, _) => try_births(rt),
-        Wanted::One(test, has_more) => run_test(rt, test, has_more, input(rt)?.as_slice()),
+        Wanted::One(test, has_more) => {
+            let input = whole_input(rt)?;
+            run_test(rt, test, has_more, input.as_slice())
+        }
         Wanted::Unknown => rt.println("no test of that name"),
     }
 }
 
 // What the command line asks for.
-fn wanted(rt: &HostRuntime) -> io::Result<Wanted> {
+fn wanted_of(rt: &HostRuntime) -> io::Result<Wanted> {
     let mut words = env::args(rt)?;
     words.next();
     let Some(word) = words.next() else {
@@ -65,7 +71,7 @@ fn wanted(rt: &HostRuntime) -> io::Result<Wanted> {
 }
 
 // All of standard input.
-fn input(rt: &HostRuntime) -> io::Result<Vec<u8>> {
+fn whole_input(rt: &HostRuntime) -> io::Result<Vec<u8>> {
     let mut input = Vec::new(rt.alloc());
     rt.stdin().read_to_end(&mut input)?;
     Ok(input)

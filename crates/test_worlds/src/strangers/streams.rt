@@ -23,10 +23,15 @@ pub struct Stream {
 
 // A stream read byte for byte: what stands there of a frame that isn't whole is asked of `decode`
 // with each byte more.
-#[derive(Drop)]
 struct SlowFeed {
     kept: Vec<u8>,
     fault: Option<FrameFault>,
+}
+
+impl Drop for SlowFeed {
+    fn drop(self) {
+        let SlowFeed { kept: _, fault: _ } = self;
+    }
 }
 
 impl SlowFeed {
