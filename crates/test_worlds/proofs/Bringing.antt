@@ -6,6 +6,7 @@ use Rattle.std.proofs.lemmas.Bool.{lt-ltb}
 use Rattle.std.proofs.lemmas.Bool.Decides.{nat_tests}
 use Rattle.std.proofs.lemmas.Fmt.{decimal_by_steps}
 use Rattle.std.proofs.lemmas.List.{length-append}
+use Rattle.std.proofs.lemmas.Option.{same_Some}
 use Rattle.std.proofs.Math.Seq.{take-append_seam, drop-append_seam}
 use Rattle.test_worlds.specs.Scripts.{is_mark, IsBringing}
 
@@ -43,19 +44,16 @@ mark_there front back none =
 pub bringing_mark : (line : List ℕ) (from to : ℕ) → IsBringing line from to → position is_mark line ≡ Some (length (decimal from))
 bringing_mark line from to is = rw is.2 (mark_there (decimal from) (decimal to) (number from (let few = is.0.1 in omega (arith, few))))
 
-some_same : {A : Type 0} (x y : A) → Some x ≡ Some y → x ≡ y
-some_same x y same = cc
-
 -- so what stands before the first mark spells the one
 pub bringing_from : (line : List ℕ) (from to mark : ℕ) → IsBringing line from to → position is_mark line ≡ Some mark → take mark line ≡ decimal from
 bringing_from line from to mark is at =
-    let there : mark ≡ length (decimal from) = some_same mark (length (decimal from)) (sym at ∙ bringing_mark line from to is) in
+    let there : mark ≡ length (decimal from) = same_Some mark (length (decimal from)) (sym at ∙ bringing_mark line from to is) in
     rw (there, is.2) (take-append_seam (decimal from) (62 ∷ decimal to))
 
 -- and from the mark on the other is spelt
 pub bringing_to : (line : List ℕ) (from to mark : ℕ) → IsBringing line from to → position is_mark line ≡ Some mark → drop mark line ≡ 62 ∷ decimal to
 bringing_to line from to mark is at =
-    let there : mark ≡ length (decimal from) = some_same mark (length (decimal from)) (sym at ∙ bringing_mark line from to is) in
+    let there : mark ≡ length (decimal from) = same_Some mark (length (decimal from)) (sym at ∙ bringing_mark line from to is) in
     rw (there, is.2) (drop-append_seam (decimal from) (62 ∷ decimal to))
 
 -- what stands behind the mark

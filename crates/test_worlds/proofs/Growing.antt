@@ -3,7 +3,7 @@ use Rattle.std.proofs.Common.{◌≡◌, ◌≢◌, ℕ, ◌<◌, ◌+◌, List,
 use Rattle.std.proofs.lemmas.List.{append-nil, reverse-append, take_more}
 use Rattle.std.specs.Prelude.{IfOk}
 use Rattle.std.specs.Global.{Vec}
-use Rattle.std.proofs.lemmas.Option.{slice_get_within, get_or_from_slice_get}
+use Rattle.std.proofs.lemmas.Option.{same_Some, slice_get_within, get_or_from_slice_get}
 use Rattle.nob_ids.specs.declared.limits.Limits.{Limits}
 use Rattle.nob_frame.specs.declared.frame.Frame.{Frame}
 use Rattle.nob_model_types.specs.declared.event.Event.{Event}
@@ -41,14 +41,11 @@ same_right n limits a b J of_a of_b space event =
     same_parts a b space event
     (of_a.is_right ∙ ap (λ (x : ℕ). right x n (limits x) (at x J) a.event) space ∙ ap (λ (x : Event). right b.space n (limits b.space) (at b.space J) x) event ∙ sym of_b.is_right)
 
-some_same : {A : Type 0} (x y : A) → Some x ≡ Some y → x ≡ y
-some_same x y same = cc
-
 -- so a step makes one entry
 same_made : (n : ℕ) (limits : ℕ → Limits) (step : WorldStep) (a b : Entry) (J : List Entry) → IsOfWorld n limits a J → IsOfWorld n limits b J → IsMadeBy step a J → IsMadeBy step b J → a ≡ b
 same_made n limits (Do space event) a b J of_a of_b made_a made_b = same_right n limits a b J of_a of_b (made_a.1 ∙ sym made_b.1) (made_a.2 ∙ sym made_b.2)
 same_made n limits (Deliver number) a b J of_a of_b made_a made_b =
-    let same : made_a.0 ≡ made_b.0 = some_same made_a.0 made_b.0 (sym made_a.1 ∙ made_b.1) in
+    let same : made_a.0 ≡ made_b.0 = same_Some made_a.0 made_b.0 (sym made_a.1 ∙ made_b.1) in
     same_right n limits a b J of_a of_b (made_a.2 ∙ ap (λ (frame : Frame). frame.to) same ∙ sym made_b.2) (made_a.3 ∙ ap (λ (frame : Frame). Arrive frame) same ∙ sym made_b.3)
 
 -- and steps that each made one entry made these

@@ -78,8 +78,7 @@ fn say(rt: &HostRuntime, spare: u64, tally: &DeathCounts) -> io::Result<()> {
     let first = tally.first;
     let called = tally.called;
     let withdrawn = tally.withdrawn;
-    let text = format!(in rt.alloc();
+    println!(rt;
         "{deaths} deaths, {spare} to spare: {lost} with a live object; {first} go on behind all indexes, {called} call and are called, {withdrawn} withdraw all"
-    )?;
-    rt.println(text.as_str())
+    )
 }

@@ -60,8 +60,7 @@ pub fn try_closes(rt: &HostRuntime, input: &[u8]) -> io::Result<()> {
         return rt.println("memory");
     };
     let steps = whole.steps;
-    let text = format!(in alloc; "{steps} steps")?;
-    rt.println(text.as_str())?;
+    println!(rt; "{steps} steps")?;
     let cuts = cuts_of(alloc, script.n, steps)?;
     try_cuts(rt, &script, cuts.as_slice())?;
     try_openings(rt, &script, cuts.as_slice())
@@ -77,12 +76,10 @@ fn try_cuts(rt: &HostRuntime, script: &Script, cuts: &[SessionCut]) -> io::Resul
     let runs = cuts.len();
     let right = tally.right;
     let cut = tally.cut;
-    let text = format!(in rt.alloc();
+    println!(rt;
         "{right} of {runs} closes: verdict yes, quiet after {ROUNDS} rounds, each space shut"
     )?;
-    rt.println(text.as_str())?;
-    let text = format!(in rt.alloc(); "{cut} of them closed a session that was open")?;
-    rt.println(text.as_str())
+    println!(rt; "{cut} of them closed a session that was open")
 }
 
 // Makes a script with a close, counts it, and writes what isn't as it should be.
@@ -102,18 +99,17 @@ fn try_cut(
         tally.right = tally.right.saturating_add(1);
         return Ok(());
     }
-    let text = text_of(rt.alloc(), cut, &outcome)?;
-    rt.println(text.as_str())
+    say_wrong(rt, cut, &outcome)
 }
 
-// What is wrong with a script with a close.
-fn text_of(alloc: Global, cut: &SessionCut, outcome: &ClosedRun) -> Result<String, AllocError> {
+// Writes what is wrong with a script with a close.
+fn say_wrong(rt: &HostRuntime, cut: &SessionCut, outcome: &ClosedRun) -> io::Result<()> {
     let verdict = verdict_text(outcome.verdict);
     let place = cut.place;
     let space = cut.space.get();
     let peer = cut.peer.get();
     let quiet = if outcome.is_quiet { "" } else { ", not quiet" };
-    format!(in alloc; "{space} closes with {peer} after {place} steps: verdict {verdict}{quiet}")
+    println!(rt; "{space} closes with {peer} after {place} steps: verdict {verdict}{quiet}")
 }
 
 // Makes a script with a close, if there is one, in a new world, and then the rounds.

@@ -58,15 +58,11 @@ fn try_lives(rt: &HostRuntime, frames: u64) -> io::Result<()> {
             Err(AllocError) => return rt.println("memory"),
         }
     }
-    let text = format!(in alloc; "{right} of {frames} frames: every answer the right one")?;
-    rt.println(text.as_str())?;
+    println!(rt; "{right} of {frames} frames: every answer the right one")?;
     let faults = seen.faults.count();
     let reasons = seen.reasons.count();
     let answers = seen.answers.count();
-    let text = format!(in alloc;
-        "{faults} of 12 faults, {reasons} of 6 reasons, {answers} of 16 kinds of answer"
-    )?;
-    rt.println(text.as_str())
+    println!(rt; "{faults} of 12 faults, {reasons} of 6 reasons, {answers} of 16 kinds of answer")
 }
 
 // Tries a long stream of frames, and one of bytes of no meaning.
@@ -106,10 +102,9 @@ fn try_changed(rt: &HostRuntime, words: &mut Words) -> io::Result<()> {
         }
     }
     let faults = seen.faults.count();
-    let text = format!(in alloc;
+    println!(rt;
         "{right} of {CHANGED} streams with a changed byte: what decode says, {faults} of 10 faults"
-    )?;
-    rt.println(text.as_str())
+    )
 }
 
 // Lets frames come to a new space, between which it does something: how many came whose answers,

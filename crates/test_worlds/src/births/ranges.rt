@@ -80,12 +80,8 @@ fn say_birth(rt: &HostRuntime, name: &str, birth: Birth) -> io::Result<()> {
     match Space::begin_at(rt.alloc(), id, 3, Limits::default(), &birth) {
         Ok(space) => {
             space.shut();
-            let text = format!(in rt.alloc(); "{name}: begins")?;
-            rt.println(text.as_str())
+            println!(rt; "{name}: begins")
         }
-        Err(error) => {
-            let text = format!(in rt.alloc(); "{name}: {error}")?;
-            rt.println(text.as_str())
-        }
+        Err(error) => { println!(rt; "{name}: {error}") }
     }
 }

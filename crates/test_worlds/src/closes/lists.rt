@@ -43,14 +43,12 @@ pub fn try_lists(rt: &HostRuntime) -> io::Result<()> {
         if trial.verdict == Verdict::Yes && trial.kept == 0 {
             right = right.saturating_add(1);
         } else {
-            let text = text_of(rt.alloc(), seed, &trial)?;
-            rt.println(text.as_str())?;
+            say_wrong(rt, seed, &trial)?;
         }
     }
-    let text = format!(in rt.alloc();
+    println!(rt;
         "{right} of {LISTS} lists of {STEPS} steps: verdict yes, and each object withdrawn"
     )?;
-    rt.println(text.as_str())?;
     rt.println(if busy > LISTS / 2 {
         "calls, replies, settlements, cleanings, withdrawals and opened sessions in most of them"
     } else {
@@ -58,11 +56,11 @@ pub fn try_lists(rt: &HostRuntime) -> io::Result<()> {
     })
 }
 
-// What is wrong with a list.
-fn text_of(alloc: Global, seed: u64, trial: &Trial) -> Result<String, AllocError> {
+// Writes what is wrong with a list.
+fn say_wrong(rt: &HostRuntime, seed: u64, trial: &Trial) -> io::Result<()> {
     let verdict = verdict_text(trial.verdict);
     let kept = trial.kept;
-    format!(in alloc; "seed {seed}: verdict {verdict}, objects kept {kept}")
+    println!(rt; "seed {seed}: verdict {verdict}, objects kept {kept}")
 }
 
 // Tries the list of a seed, in a new world of three or four spaces.

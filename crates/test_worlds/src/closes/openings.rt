@@ -49,14 +49,10 @@ pub fn try_openings(rt: &HostRuntime, script: &Script, cuts: &[SessionCut]) -> i
     let right = tally.right;
     let here = tally.here;
     let there = tally.there;
-    let text = format!(in rt.alloc();
-        "{right} of {runs} closes and opens: verdict yes, and each object withdrawn"
-    )?;
-    rt.println(text.as_str())?;
-    let text = format!(in rt.alloc();
+    println!(rt; "{right} of {runs} closes and opens: verdict yes, and each object withdrawn")?;
+    println!(rt;
         "{here} of them opened the session anew where it was closed, {there} at the other end"
-    )?;
-    rt.println(text.as_str())
+    )
 }
 
 // Makes a run, counts it, and writes what isn't as it should be.
@@ -79,18 +75,17 @@ fn try_opening(
         tally.right = tally.right.saturating_add(1);
         return Ok(());
     }
-    let text = text_of(rt.alloc(), cut, &reopening)?;
-    rt.println(text.as_str())
+    say_wrong(rt, cut, &reopening)
 }
 
-// What is wrong with a run.
-fn text_of(alloc: Global, cut: &SessionCut, reopening: &ReopenedRun) -> Result<String, AllocError> {
+// Writes what is wrong with a run.
+fn say_wrong(rt: &HostRuntime, cut: &SessionCut, reopening: &ReopenedRun) -> io::Result<()> {
     let verdict = verdict_text(reopening.verdict);
     let kept = reopening.kept;
     let place = cut.place;
     let space = cut.space.get();
     let peer = cut.peer.get();
-    format!(in alloc;
+    println!(rt;
         "{space} closes with {peer} after {place} steps, opens: verdict {verdict}, objects kept {kept}"
     )
 }
