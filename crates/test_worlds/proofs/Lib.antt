@@ -1,0 +1,2 @@
+mod Bringing
+mod Growing

@@ -1,0 +1,3 @@
+pub mod Ends
+pub mod Makings
+pub mod Scripts
