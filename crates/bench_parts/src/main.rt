@@ -15,9 +15,15 @@ use crate::reading::{first_word, words_of};
 use std::alloc::Global;
 use std::io;
 use std::process::ExitCode;
+use std::sync::Wait;
+use std::thread::Threads;
 
 fn main(rt: HostRuntime) -> ExitCode {
-    match run(&rt, rt.alloc()) {
+    let done = match words_of(&rt, rt.alloc()) {
+        Ok(words) => run(&rt, rt.alloc(), words.as_str()),
+        Err(error) => Err(error),
+    };
+    match done {
         Ok(()) => ExitCode::from(0),
         Err(_) => ExitCode::from(1),
     }
@@ -25,9 +31,12 @@ fn main(rt: HostRuntime) -> ExitCode {
 
 // Carries out the task of the command line. Where it has none, those of standard input, one a line,
 // each of the bench that the command line names, or else of the one that its own first word names.
-fn run(rt: &HostRuntime, alloc: Global) -> io::Result<()> {
-    let words = words_of(rt, alloc)?;
-    let (bench, task) = first_word(words.as_str());
+fn run<R: Threads + Wait + Sync + Input + Print>(
+    rt: &R,
+    alloc: Global,
+    words: &str,
+) -> io::Result<()> {
+    let (bench, task) = first_word(words);
     if !task.is_empty() {
         return measure(rt, alloc, bench, task);
     }
@@ -44,7 +53,12 @@ fn run(rt: &HostRuntime, alloc: Global) -> io::Result<()> {
 }
 
 // Carries out a task of a bench, and says what came of it.
-fn measure(rt: &HostRuntime, alloc: Global, bench: &str, task: &str) -> io::Result<()> {
+fn measure<R: Threads + Wait + Sync + Print>(
+    rt: &R,
+    alloc: Global,
+    bench: &str,
+    task: &str,
+) -> io::Result<()> {
     match bench {
         "links" => links::measure(rt, alloc, task),
         "strangers" => strangers::measure(rt, alloc, task),
