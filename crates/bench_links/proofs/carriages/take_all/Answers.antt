@@ -1,7 +1,0 @@
-use Rattle.std.proofs.Common.{[], sym}
-use Rattle.std.proofs.lemmas.List.{append-nil}
-use Rattle.bench_links.proofs.Orders.{none_came}
-use Rattle.bench_links.proofs.carriages.take_all.Goals as goal
-
-pub loop-init : goal.loop-init
-loop-init g c = ([], sym (append-nil c.args.take.now.taken), none_came)

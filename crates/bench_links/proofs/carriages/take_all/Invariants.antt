@@ -1,7 +1,0 @@
-use Rattle.std.proofs.Common.{◌≡◌, ◌++◌, List, reverse}
-use Rattle.nob_link.specs.declared.parcel.Parcel.{Parcel}
-use Rattle.bench_links.specs.Counting.{AreInOrder}
-use Rattle.bench_links.proofs.carriages.take_all.Given as goal
-
-abbrev pub invariant-loop : goal.invariant-loop
-invariant-loop g l = (taken : List Parcel) × (l.take.taken ≡ l.fn.take.taken ++ taken) × AreInOrder l.came (reverse taken)
