@@ -17,6 +17,8 @@ pub enum Test {
     Next,
     /// What peers outside the runtime can send.
     Strangers,
+    /// What two ends of a session hold.
+    Held,
 }
 
 /// The test of a name.
@@ -27,6 +29,7 @@ pub fn test_named(name: &[u8]) -> Option<Test> {
         b"growths" => Some(Test::Growths),
         b"next" => Some(Test::Next),
         b"strangers" => Some(Test::Strangers),
+        b"held" => Some(Test::Held),
         _ => None,
     }
 }
