@@ -5,9 +5,10 @@ use Rattle.nob_model_types.specs.declared.answer.Job.{Job}
 use Rattle.nob_dispatch.specs.declared.errand.Errand.{Errand}
 use Rattle.nob_dispatch.specs.declared.errand.Return.{Return}
 use Rattle.nob_dispatch.specs.KeeperError.{KeeperError}
+use Rattle.nob_dispatch.specs.Faults.{is_memory}
 use Rattle.nob_dispatch.specs.Ends.{ended, number_in, target_in}
 use Rattle.nob_dispatch.specs.Working.{Working, with_errand, freed, got}
-use Rattle.nob_dispatch.specs.Serving.{Serving, Follows, IsTied, Runs, gives_up, is_memory, numbers, place, place_in, places, returned}
+use Rattle.nob_dispatch.specs.Serving.{Serving, Follows, IsTied, Runs, gives_up, numbers, place, place_in, places, returned}
 
 -- the next one is missed, and from then on some are
 pub missed : {X : Type 0} (misses : Bool) (next : Option X) (all done : List X) → Follows misses next all done → Follows true None all done

@@ -1,4 +1,5 @@
 pub use Rattle.nob_keeper.specs.KeeperError
+pub mod Faults
 pub mod Shelves
 pub mod Ends
 pub mod Working

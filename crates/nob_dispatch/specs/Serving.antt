@@ -5,12 +5,12 @@ use Rattle.nob_dispatch_lanes.specs.declared.ends.LanePut.{LanePut}
 use Rattle.nob_dispatch_lanes.specs.declared.ends.LaneTake.{LaneTake}
 use Rattle.nob_dispatch_lanes.specs.Ends.{given_by, got_by}
 use Rattle.nob_dispatch.specs.KeeperError.{KeeperError}
-use Rattle.nob_dispatch.specs.KeeperError.TheVariants as errors
 use Rattle.nob_dispatch.specs.declared.errand.Errand.{Errand}
 use Rattle.nob_dispatch.specs.declared.errand.Return.{Return}
 use Rattle.nob_dispatch.specs.Ends.{ended, with_job}
 use Rattle.nob_dispatch.specs.Working.{Working, with_errand}
 use Rattle.nob_dispatch.specs.Stakes.{Stakes}
+use Rattle.nob_dispatch.specs.Faults.{is_memory}
 use Rattle.nob_dispatch.specs.declared.hand.Deed.{Deed}
 use Rattle.nob_dispatch.specs.declared.hand.Deed.TheVariants as deeds
 
@@ -21,14 +21,6 @@ given end = given_by end.pass
 -- what an end of a lane got, the first first
 abbrev pub taken : {X : Type 0} → LaneTake X → List X
 taken end = got_by end.pass
-
--- whether an error of the keeper is want of memory
-abbrev pub is_memory : KeeperError → Bool
-is_memory errors.OutOfMemory = true
-is_memory errors.Stamp = false
-is_memory errors.Seats = false
-is_memory errors.Size = false
-is_memory errors.NoTrace = false
 
 -- a job's number, and the index of its object
 abbrev pub place : Job → ℕ × ℕ

@@ -1,6 +1,7 @@
 //! A worker with the ends of its lanes.
 
-ghost use Rattle.std.specs.Prelude.{◌≡◌, ◌≢◌, [], ℕ, List, Some, None, true, false, reverse, MatchOption};
+ghost use Rattle.std.specs.Prelude.{◌≡◌, ◌≢◌, [], ℕ, List, Some, None, true, false, reverse, IfErr, MatchOption};
+ghost use Rattle.nob_dispatch.specs.Faults as faults;
 ghost use Rattle.nob_dispatch.specs.Serving as serving;
 ghost use Rattle.nob_dispatch.specs.Stakes as ends;
 ghost use Rattle.nob_dispatch_lanes.specs.Ends.{stake_of};
@@ -88,6 +89,7 @@ impl<O: Object> Hand<O> {
         ensures got { self.old.worker.job ≡ None → result ≡ true
             → serving.Gets self.old self.new }
         ensures none { result ≡ false → (self.old.worker.job ≡ None) × (self.new ≡ self.old) }
+        ensures fault { self.new.fault ≡ self.old.fault }
         ensures stakes { self.new.stakes ≡ self.old.stakes }
     {
         if !self.worker.is_free() {
@@ -109,6 +111,7 @@ impl<O: Object> Hand<O> {
         ensures got { self.old.worker.job ≡ None → result ≡ true
             → serving.Gets self.old self.new }
         ensures none { result ≡ false → (self.old.worker.job ≡ None) × (self.new ≡ self.old) }
+        ensures fault { self.new.fault ≡ self.old.fault }
         ensures stakes { self.new.stakes ≡ self.old.stakes }
     {
         if !self.worker.is_free() {
@@ -136,6 +139,7 @@ impl<O: Object> Hand<O> {
     ) -> Result<Deed, KeeperError>
         ensures taken { self.new.taken ≡ self.old.taken }
         ensures fault { self.new.fault ≡ serving.fault_after result self.old.fault }
+        ensures error { IfErr result (λ error. faults.IsAnswered (C.answered keeper.now) error) }
         ensures free { serving.IsFreeAfter result self.new }
         ensures stakes { self.new.stakes ≡ self.old.stakes }
     {
@@ -164,7 +168,7 @@ impl<O: Object> Hand<O> {
 
     // Gives up the job that it keeps, if it keeps one, and from now on each that it gets.
     fn give_up<R: Wait>(&mut self, rt: &R, error: KeeperError)
-        requires { serving.is_memory error ≡ false }
+        requires { faults.is_memory error ≡ false }
         ensures fault { self.new.fault ≡ Some error }
         ensures taken { self.new.taken ≡ self.old.taken }
         ensures worker { self.new.worker ≡ working.freed self.old.worker }
@@ -207,7 +211,7 @@ impl<O: Object> Hand<O> {
 
 /// Whether an error of the keeper is want of memory.
 pub(crate) fn is_memory(error: KeeperError) -> bool
-    ensures { result ≡ serving.is_memory error }
+    ensures { result ≡ faults.is_memory error }
 {
     match error {
         KeeperError::OutOfMemory => true,

@@ -1,6 +1,7 @@
 //! What a worker's thread does.
 
 ghost use Rattle.std.specs.Prelude.{◌≡◌, None};
+ghost use Rattle.nob_dispatch.specs.Faults as faults;
 
 use crate::calls::JobCalls;
 use crate::gate::Gate;
@@ -28,6 +29,7 @@ pub fn serve<O: Object, R: Wait, C: JobCalls, G: Gate>(
     hand: &mut Hand<O>,
 )
     ensures free { hand.new.worker.job ≡ None }
+    ensures fault { faults.GivesUpFor (C.answered keeper.now) hand.old.fault hand.new.fault }
     ensures stakes { hand.new.stakes ≡ hand.old.stakes }
 {
     for _ in rt.forever() {
@@ -48,6 +50,7 @@ pub fn carry_out<O: Object, R: Wait, C: JobCalls, G: Gate>(
 )
     ensures taken { hand.new.taken ≡ hand.old.taken }
     ensures free { hand.new.worker.job ≡ None }
+    ensures fault { faults.GivesUpFor (C.answered keeper.now) hand.old.fault hand.new.fault }
     ensures stakes { hand.new.stakes ≡ hand.old.stakes }
 {
     let mut rest = FIRST_REST;

@@ -1,6 +1,6 @@
 //! How far a job is.
 
-ghost use Rattle.std.specs.Prelude.{◌≡◌, ◌≢◌, ◌∷◌, Some, None, true, false, IfOk, OnErr};
+ghost use Rattle.std.specs.Prelude.{◌≡◌, ◌≢◌, ◌∷◌, Some, None, true, false, IfOk, IfErr, OnErr};
 ghost use Rattle.nob_dispatch.specs.Ends.{finishes, is_claim, ended, claimed, was_accepted};
 ghost use Rattle.nob_dispatch.specs.declared.stage.AfterFinish.TheVariants.{Ended};
 
@@ -77,6 +77,7 @@ impl Finish {
             → ended seat.new ≡ self.now.job ∷ ended seat.old) }
         ensures more { IfOk result (λ after. after ≢ Ended → ended seat.new ≡ ended seat.old) }
         ensures claimed { claimed seat.new ≡ claimed seat.old }
+        ensures error { IfErr result (λ error. C.answered keeper.now error) }
         ensures err { OnErr result (seat.new ≡ seat.old) }
     {
         keeper.call(rt, seat, &self.event)?;

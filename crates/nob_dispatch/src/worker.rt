@@ -2,6 +2,7 @@
 
 ghost use Rattle.std.specs.Prelude.{◌≡◌, ◌≢◌, ◌∷◌, [], Some, None, true, OnOk, OnErr, IfErr, IfSome, MatchOption};
 ghost use Rattle.nob_dispatch.specs.Ends.{ended};
+ghost use Rattle.nob_dispatch.specs.Faults as faults;
 ghost use Rattle.nob_dispatch.specs.Working as working;
 
 use crate::calls::JobCalls;
@@ -107,6 +108,7 @@ impl<O: Object> Worker<O> {
         ensures got { working.got self.new ≡ working.got self.old }
         ensures objects { working.GivesBack result self.old self.new }
         ensures free { working.IsFreeAfter result self.new }
+        ensures error { IfErr result (λ error. faults.IsAnswered (C.answered keeper.now) error) }
     {
         if let Some(back) = self.hand_back() {
             return Ok(Progress::Back(back));
@@ -168,6 +170,7 @@ impl<O: Object> Worker<O> {
         ensures got { working.got self.new ≡ working.got self.old }
         ensures objects { working.GivesBack result self.old self.new }
         ensures free { working.IsFreeAfter result self.new }
+        ensures error { IfErr result (λ error. faults.IsAnswered (C.answered keeper.now) error) }
     {
         let Keeping::Running(errand, stage) = &mut self.keeping else {
             return self.finish(rt, keeper, gate);
@@ -189,6 +192,7 @@ impl<O: Object> Worker<O> {
         ensures got { working.got self.new ≡ working.got self.old }
         ensures objects { working.GivesBack result self.old self.new }
         ensures free { working.IsFreeAfter result self.new }
+        ensures error { IfErr result (λ error. faults.IsAnswered (C.answered keeper.now) error) }
     {
         let Keeping::Ending(finish) = &self.keeping else {
             return Ok(Progress::Idle);
@@ -254,6 +258,7 @@ fn advance<O: Object, R: Wait, C: JobCalls, G: Gate>(
 ) -> Result<bool, KeeperError>
     ensures ended { ended seat.new ≡ ended seat.old }
     ensures job { errand.new.job ≡ errand.old.job }
+    ensures error { IfErr result (λ error. faults.IsAnswered (C.answered keeper.now) error) }
 {
     match stage {
         Stage::Begin => {
