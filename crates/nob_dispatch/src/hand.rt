@@ -5,11 +5,13 @@ ghost use Rattle.nob_dispatch.specs.Faults as faults;
 ghost use Rattle.nob_dispatch.specs.Serving as serving;
 ghost use Rattle.nob_dispatch.specs.Stakes as ends;
 ghost use Rattle.nob_dispatch_lanes.specs.Ends.{stake_of};
+ghost use Rattle.nob_dispatch.specs.Steps as steps;
 ghost use Rattle.nob_dispatch.specs.Working as working;
 
 use crate::calls::JobCalls;
 use crate::errand::{Errand, Return};
 use crate::gate::Gate;
+use crate::runs::Runs;
 use crate::worker::{Progress, Worker};
 use nob_dispatch_lanes::{LanePut, LaneTake};
 use nob_dispatch_objects::Object;
@@ -68,7 +70,7 @@ impl<O: Object> Hand<O> {
         ensures { result ≡ record {
           taken = [];
           given = [];
-          worker = record { receipts = []; job = None; running = None };
+          worker = record { receipts = []; job = None; running = None; course = None };
           fault = None;
           is_alone = returns.has_heard_gone;
           stakes = ends.of_hand errands returns;
@@ -137,7 +139,11 @@ impl<O: Object> Hand<O> {
         keeper: &C,
         gate: &G,
     ) -> Result<Deed, KeeperError>
+    where
+        O: Runs,
         ensures taken { self.new.taken ≡ self.old.taken }
+        ensures given { serving.GivesBack self.old self.new }
+        ensures runs { working.RunsAtMost O.begins O.resumes self.old.worker self.new.worker }
         ensures fault { self.new.fault ≡ serving.fault_after result self.old.fault }
         ensures error { IfErr result (λ error. faults.IsAnswered (C.answered keeper.now) error) }
         ensures free { serving.IsFreeAfter result self.new }
@@ -171,6 +177,7 @@ impl<O: Object> Hand<O> {
         requires { faults.is_memory error ≡ false }
         ensures fault { self.new.fault ≡ Some error }
         ensures taken { self.new.taken ≡ self.old.taken }
+        ensures given { serving.GivesBack self.old self.new }
         ensures worker { self.new.worker ≡ working.freed self.old.worker }
         ensures stakes { self.new.stakes ≡ self.old.stakes }
     {
@@ -193,6 +200,8 @@ impl<O: Object> Hand<O> {
         ensures seat { result.0 ≡ self.worker.receipts }
         ensures errand { MatchOption result.1 (self.worker.running ≡ None)
             (λ errand. self.worker.running ≡ Some errand.job) }
+        ensures object { MatchOption result.1 (self.worker.course ≡ None)
+            (λ errand. steps.object_in self.worker.course ≡ Some errand.object) }
         ensures errands { serving.taken result.2 ≡ self.taken }
         ensures returns { serving.given result.3 ≡ self.given }
         ensures stakes { ends.of_hand result.2 result.3 ≡ self.stakes }
@@ -230,6 +239,8 @@ fn send_back<O: Object, R: Wait>(rt: &R, returns: &mut LanePut<Return<O>>, back:
         (serving.returned (reverse (serving.given returns.old)))
         → serving.Follows returns.new.has_heard_gone None all
         (serving.returned (reverse (serving.given returns.new))) }
+    ensures given { serving.GivesAtMost (Some back.object) (serving.given returns.old)
+        (serving.given returns.new) }
     ensures stake { stake_of returns.new.pass ≡ stake_of returns.old.pass }
 {
     if returns.has_heard_gone() {

@@ -2,6 +2,7 @@
 
 ghost use Rattle.std.specs.Prelude.{◌≡◌, ◌≢◌, ◌∷◌, Some, None, true, false, IfOk, IfErr, OnErr};
 ghost use Rattle.nob_dispatch.specs.Ends.{finishes, is_claim, ended, claimed, was_accepted};
+ghost use Rattle.nob_dispatch.specs.Steps as steps;
 ghost use Rattle.nob_dispatch.specs.declared.stage.AfterFinish.TheVariants.{Ended};
 
 use crate::calls::JobCalls;
@@ -125,7 +126,9 @@ impl AfterFinish {
 
 impl Stage {
     // What is next after what a method came to.
-    pub(crate) fn of(outcome: Outcome) -> Stage {
+    pub(crate) fn of(outcome: Outcome) -> Stage
+        ensures { steps.Comes outcome result }
+    {
         match outcome {
             Outcome::Answer(value) => Stage::End(Ending::Answer(value)),
             Outcome::Fault(value) => Stage::End(Ending::Fault(value)),
