@@ -4,6 +4,7 @@ pub mod Shelves
 pub mod Ends
 pub mod Telling
 pub mod Steps
+mod Closings
 pub mod Working
 pub mod Dispatching
 pub mod Stakes

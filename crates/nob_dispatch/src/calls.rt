@@ -12,8 +12,8 @@ use std::sync::Wait;
 
 /// A keeper, as dispatchers and workers see it.
 pub trait JobCalls {
-    /// The errors that it answered calls by. Code for any keeper knows none but from a call; a keeper
-    /// need not tell.
+    /// The errors that it answered calls by. Code for any keeper knows none but from a call; a
+    /// keeper need not tell.
     ghost answered: { Self → KeeperErrorOf → Type 0 } = { λ _ _. Unit {0} };
 
     /// One call: an event of the space, whose receipt is added to the seat.

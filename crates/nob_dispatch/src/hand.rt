@@ -70,7 +70,13 @@ impl<O: Object> Hand<O> {
         ensures { result ≡ record {
           taken = [];
           given = [];
-          worker = record { receipts = []; job = None; running = None; course = None };
+          worker = record {
+            receipts = [];
+            job = None;
+            running = None;
+            course = None;
+            closing = None;
+          };
           fault = None;
           is_alone = returns.has_heard_gone;
           stakes = ends.of_hand errands returns;
@@ -106,8 +112,9 @@ impl<O: Object> Hand<O> {
         }
     }
 
-    /// Takes the next errand if there is one now and the worker is free: whether the worker keeps one
-    /// then. It doesn't wait, and may find none while another thread is just giving or getting one.
+    /// Takes the next errand if there is one now and the worker is free: whether the worker keeps
+    /// one then. It doesn't wait, and may find none while another thread is just giving or getting
+    /// one.
     pub fn try_get<R: Wait>(&mut self, rt: &R) -> bool
         ensures kept { self.old.worker.job ≢ None → (result ≡ true) × (self.new ≡ self.old) }
         ensures got { self.old.worker.job ≡ None → result ≡ true
@@ -131,8 +138,8 @@ impl<O: Object> Hand<O> {
     /// One turn: a step of the job that the worker keeps, as `Worker::turn` has it. An object that
     /// comes back is given to the lane at once, before the Finish. Where the hand heard that nobody
     /// gets it any more it is let go. After an error of the keeper other than K2 the hand gives up
-    /// the job that it keeps, and from then on each that it gets: the object goes back over the lane,
-    /// and the job isn't ended.
+    /// the job that it keeps, and from then on each that it gets: the object goes back over the
+    /// lane, and the job isn't ended.
     pub fn turn<R: Wait, C: JobCalls, G: Gate>(
         &mut self,
         rt: &R,
@@ -187,8 +194,8 @@ impl<O: Object> Hand<O> {
         }
     }
 
-    /// Its parts, which are tied: its seat, the errand that it keeps, if its method hasn't ended, and
-    /// its ends.
+    /// Its parts, which are tied: its seat, the errand that it keeps, if its method hasn't ended,
+    /// and its ends.
     pub fn end(
         self,
     ) -> (

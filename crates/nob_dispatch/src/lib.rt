@@ -1,5 +1,5 @@
-//! Jobs, and a pool that runs objects in threads: who claims jobs and who carries them out, each with
-//! its ends of the two lanes between them, and the loop of a worker's thread.
+//! Jobs, and a pool that runs objects in threads: who claims jobs and who carries them out, each
+//! with its ends of the two lanes between them, and the loop of a worker's thread.
 #![tactic(auto)]
 
 mod calls;

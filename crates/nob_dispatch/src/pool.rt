@@ -12,8 +12,8 @@ use std::sync::atomic::AtomicU64;
 use std::thread;
 use std::time::Duration;
 
-/// For how many microseconds a worker's thread rests at first where its job can't be ended yet. Each
-/// further rest is twice as long.
+/// For how many microseconds a worker's thread rests at first where its job can't be ended yet.
+/// Each further rest is twice as long.
 const FIRST_REST: u64 = 20;
 
 /// For how many it rests at most.
@@ -70,8 +70,8 @@ pub fn carry_out<O: Runs, R: Wait, C: JobCalls, G: Gate>(
     }
 }
 
-// Leaves the processor to others for so many microseconds: how many the next rest has. Nobody has to
-// wake it.
+// Leaves the processor to others for so many microseconds: how many the next rest has. Nobody has
+// to wake it.
 fn after_rest<R: Wait>(rt: &R, rest: u64) -> u64 {
     let nothing = AtomicU64::new(0);
     nothing.park_timeout(rt, 0, Duration::from_micros(rest));

@@ -36,8 +36,8 @@ pub enum Progress<O: Object> {
 }
 
 /// Who carries jobs out, one at a time, over a seat of its own. Contracts see its receipts, the
-/// number of the job that it keeps, and that job while it has its object, with the object and what
-/// is next for its method.
+/// number of the job that it keeps, that job while it has its object, with the object and what is
+/// next for its method, and then the event that is to end the job.
 #[derive(Drop)]
 pub struct Worker<O: Object> {
     seat: Seat,
@@ -45,7 +45,7 @@ pub struct Worker<O: Object> {
 }
 
 impl<O: Object> Model for Worker<O> {
-    ghost use Rattle.nob_dispatch.specs.Working.{Working, job_in, running_in, course_in};
+    ghost use Rattle.nob_dispatch.specs.Working.{Working, job_in, running_in, course_in, closing_in};
 
     ghost Value = { Working O };
 
@@ -59,6 +59,7 @@ impl<O: Object> Model for Worker<O> {
       job = job_in worker.keeping;
       running = running_in worker.keeping;
       course = course_in worker.keeping;
+      closing = closing_in worker.keeping;
     } };
 }
 
@@ -66,7 +67,13 @@ impl<O: Object> Worker<O> {
     /// A worker over a seat, which keeps no job. The caller's condition: the seat is unused.
     pub fn new(seat: Seat) -> Worker<O>
         requires { seat ≡ [] }
-        ensures { result ≡ record { receipts = []; job = None; running = None; course = None } }
+        ensures { result ≡ record {
+          receipts = [];
+          job = None;
+          running = None;
+          course = None;
+          closing = None;
+        } }
     {
         Worker {
             seat,
