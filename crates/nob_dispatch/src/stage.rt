@@ -2,8 +2,6 @@
 
 ghost use Rattle.std.specs.Prelude.{◌≡◌, ◌≢◌, ◌∷◌, Some, None, true, false, IfOk, IfErr, OnOk, OnErr};
 ghost use Rattle.nob_dispatch.specs.Ends.{finishes, is_claim, ended, claimed, was_accepted};
-ghost use Rattle.nob_dispatch.specs.Closings.{IsAfter};
-ghost use Rattle.nob_dispatch.specs.Steps as steps;
 ghost use Rattle.nob_keeper.specs.Seats.{Adds};
 ghost use Rattle.nob_model_types.specs.declared.event.Event.TheVariants as events;
 ghost use Rattle.nob_model_types.specs.declared.event.Outcome.TheVariants as endings;
@@ -62,6 +60,8 @@ pub(crate) enum Keeping<O: Object> {
 }
 
 impl Finish {
+    ghost use Rattle.nob_dispatch.specs.Closings.{IsAfter};
+
     // What ends a job so.
     pub(crate) fn new(job: JobNo, ending: Ending) -> Finish
         ensures job { result.job ≡ job }
@@ -114,6 +114,8 @@ pub(crate) enum AfterFinish {
 }
 
 impl AfterFinish {
+    ghost use Rattle.nob_dispatch.specs.Closings.{IsAfter};
+
     // What is next after the Finish of the newest receipt.
     pub(crate) fn of(seat: &Seat) -> AfterFinish
         ensures ended { result ≡ Ended → was_accepted seat.now ≡ true }
@@ -135,6 +137,8 @@ impl AfterFinish {
 }
 
 impl Stage {
+    ghost use Rattle.nob_dispatch.specs.Steps as steps;
+
     // What is next after what a method came to.
     pub(crate) fn of(outcome: Outcome) -> Stage
         ensures { steps.Comes outcome result }
