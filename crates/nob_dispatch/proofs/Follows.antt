@@ -5,9 +5,10 @@ use Rattle.nob_model_types.specs.declared.answer.Job.{Job}
 use Rattle.nob_dispatch.specs.declared.errand.Errand.{Errand}
 use Rattle.nob_dispatch.specs.declared.errand.Return.{Return}
 use Rattle.nob_dispatch.specs.KeeperError.{KeeperError}
+use Rattle.nob_dispatch.specs.Faults.{is_memory}
 use Rattle.nob_dispatch.specs.Ends.{ended, number_in, target_in}
 use Rattle.nob_dispatch.specs.Working.{Working, with_errand, freed, got}
-use Rattle.nob_dispatch.specs.Serving.{Serving, Follows, IsTied, Runs, gives_up, is_memory, numbers, place, place_in, places, returned}
+use Rattle.nob_dispatch.specs.Serving.{Serving, Follows, IsTied, Runs, gives_up, numbers, place, place_in, places, returned}
 
 -- the next one is missed, and from then on some are
 pub missed : {X : Type 0} (misses : Bool) (next : Option X) (all done : List X) → Follows misses next all done → Follows true None all done
@@ -41,31 +42,31 @@ module _ {O : Type 0} where
       subst (λ (b : Bool). Follows b None all (returned (reverse given'))) (sym is) now
 
   -- an errand more is got
-  pub gets_tied : (old : Serving O) (errand : Errand O) (taken : List (Errand O)) (worker : Working) → taken ≡ old.taken ++ errand ∷ [] → worker ≡ with_errand errand old.worker → old.worker.job ≡ None → old.worker.running ≡ None → IsTied old → IsTied (record { taken = taken; given = old.given; worker = worker; fault = old.fault; is_alone = old.is_alone; stakes = old.stakes })
+  pub gets_tied : (old : Serving O) (errand : Errand O) (taken : List (Errand O)) (worker : Working O) → taken ≡ old.taken ++ errand ∷ [] → worker ≡ with_errand errand old.worker → old.worker.job ≡ None → old.worker.running ≡ None → IsTied old → IsTied (record { taken = taken; given = old.given; worker = worker; fault = old.fault; is_alone = old.is_alone; stakes = old.stakes })
   gets_tied old errand taken worker more keeps free idle tied =
       let push : reverse taken ≡ errand ∷ reverse old.taken = ap reverse more ∙ reverse-append old.taken (errand ∷ []) in
       let was = subst (λ (job : Option ℕ). Follows (gives_up old.fault) job (numbers (reverse old.taken)) (ended old.worker.receipts)) free tied.0 in
       let jobs = follows_more (gives_up old.fault) errand.job.job (numbers (reverse old.taken)) (ended old.worker.receipts) was in
       let had = subst (λ (running : Option Job). Follows old.is_alone (place_in running) (places (reverse old.taken)) (returned (reverse old.given))) idle tied.1 in
       let objects = follows_more old.is_alone (place errand.job) (places (reverse old.taken)) (returned (reverse old.given)) had in
-      subst (λ (x : List (Errand O) × Working). Follows (gives_up old.fault) x.1.job (numbers x.0) (ended x.1.receipts) × Follows old.is_alone (place_in x.1.running) (places x.0) (returned (reverse old.given)) × Runs x.1.running x.0 × IfSome old.fault (λ error. is_memory error ≡ false))
+      subst (λ (x : List (Errand O) × Working O). Follows (gives_up old.fault) x.1.job (numbers x.0) (ended x.1.receipts) × Follows old.is_alone (place_in x.1.running) (places x.0) (returned (reverse old.given)) × Runs x.1.running x.0 × IfSome old.fault (λ error. is_memory error ≡ false))
       (λ i. (sym push i, sym keeps i)) (jobs, objects, refl, tied.3)
 
   -- a job is given up
-  pub frees_tied : (old : Serving O) (error : KeeperError) (worker : Working) (given : List (Return O)) (is_alone : Bool) → worker ≡ freed old.worker → is_memory error ≡ false → Follows is_alone None (places (reverse old.taken)) (returned (reverse given)) → IsTied old → IsTied (record { taken = old.taken; given = given; worker = worker; fault = Some error; is_alone = is_alone; stakes = old.stakes })
+  pub frees_tied : (old : Serving O) (error : KeeperError) (worker : Working O) (given : List (Return O)) (is_alone : Bool) → worker ≡ freed old.worker → is_memory error ≡ false → Follows is_alone None (places (reverse old.taken)) (returned (reverse given)) → IsTied old → IsTied (record { taken = old.taken; given = given; worker = worker; fault = Some error; is_alone = is_alone; stakes = old.stakes })
   frees_tied old error worker given is_alone is_freed other objects tied =
-      subst (λ (w : Working). Follows true w.job (numbers (reverse old.taken)) (ended w.receipts) × Follows is_alone (place_in w.running) (places (reverse old.taken)) (returned (reverse given)) × Runs w.running (reverse old.taken) × (is_memory error ≡ false))
+      subst (λ (w : Working O). Follows true w.job (numbers (reverse old.taken)) (ended w.receipts) × Follows is_alone (place_in w.running) (places (reverse old.taken)) (returned (reverse given)) × Runs w.running (reverse old.taken) × (is_memory error ≡ false))
       (sym is_freed) (missed (gives_up old.fault) old.worker.job (numbers (reverse old.taken)) (ended old.worker.receipts) tied.0, objects, tt, other)
 
   -- a turn of the worker by which no object comes back
-  pub turns_tied : (old : Serving O) (worker : Working) → old.fault ≡ None → got worker ≡ got old.worker → worker.running ≡ old.worker.running → IsTied old → IsTied (record { taken = old.taken; given = old.given; worker = worker; fault = old.fault; is_alone = old.is_alone; stakes = old.stakes })
+  pub turns_tied : (old : Serving O) (worker : Working O) → old.fault ≡ None → got worker ≡ got old.worker → worker.running ≡ old.worker.running → IsTied old → IsTied (record { taken = old.taken; given = old.given; worker = worker; fault = old.fault; is_alone = old.is_alone; stakes = old.stakes })
   turns_tied old worker none same running tied =
       let was : numbers (reverse old.taken) ≡ got old.worker = subst (λ (fault : Option KeeperError). Follows (gives_up fault) old.worker.job (numbers (reverse old.taken)) (ended old.worker.receipts)) none tied.0 in
       let jobs = subst (λ (fault : Option KeeperError). Follows (gives_up fault) worker.job (numbers (reverse old.taken)) (ended worker.receipts)) (sym none) (was ∙ sym same) in
       (jobs, subst (λ (r : Option Job). Follows old.is_alone (place_in r) (places (reverse old.taken)) (returned (reverse old.given))) (sym running) tied.1, subst (λ (r : Option Job). Runs r (reverse old.taken)) (sym running) tied.2, tied.3)
 
   -- a turn of the worker by which its object comes back
-  pub returns_tied : (old : Serving O) (worker : Working) (given : List (Return O)) (is_alone : Bool) → old.fault ≡ None → got worker ≡ got old.worker → worker.running ≡ None → Follows is_alone None (places (reverse old.taken)) (returned (reverse given)) → IsTied old → IsTied (record { taken = old.taken; given = given; worker = worker; fault = old.fault; is_alone = is_alone; stakes = old.stakes })
+  pub returns_tied : (old : Serving O) (worker : Working O) (given : List (Return O)) (is_alone : Bool) → old.fault ≡ None → got worker ≡ got old.worker → worker.running ≡ None → Follows is_alone None (places (reverse old.taken)) (returned (reverse given)) → IsTied old → IsTied (record { taken = old.taken; given = given; worker = worker; fault = old.fault; is_alone = is_alone; stakes = old.stakes })
   returns_tied old worker given is_alone none same idle objects tied =
       let was : numbers (reverse old.taken) ≡ got old.worker = subst (λ (fault : Option KeeperError). Follows (gives_up fault) old.worker.job (numbers (reverse old.taken)) (ended old.worker.receipts)) none tied.0 in
       let jobs = subst (λ (fault : Option KeeperError). Follows (gives_up fault) worker.job (numbers (reverse old.taken)) (ended worker.receipts)) (sym none) (was ∙ sym same) in

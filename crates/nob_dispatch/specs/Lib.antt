@@ -1,8 +1,11 @@
 pub use Rattle.nob_keeper.specs.KeeperError
+pub mod Faults
 pub mod Shelves
 pub mod Ends
-pub mod Working
 pub mod Telling
+pub mod Steps
+mod Closings
+pub mod Working
 pub mod Dispatching
 pub mod Stakes
 pub mod Serving

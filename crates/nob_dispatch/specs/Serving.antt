@@ -1,16 +1,17 @@
 -- A worker with the ends of its two lanes. Errands and objects stand oldest first where nothing else is said; receipts stand the newest FIRST.
-use Rattle.std.specs.Prelude.{◌≡◌, ℕ, Bool, true, false, List, ◌++◌, ◌∷◌, [], map, reverse, Option, Some, None, IfSome, Result, Ok, Err, if◌then◌else◌}
+use Rattle.std.specs.Prelude.{◌≡◌, ◌⊎◌, ℕ, Bool, true, false, List, ◌++◌, ◌∷◌, [], map, reverse, Option, Some, None, IfSome, Result, Ok, Err, if◌then◌else◌}
 use Rattle.nob_model_types.specs.declared.answer.Job.{Job}
 use Rattle.nob_dispatch_lanes.specs.declared.ends.LanePut.{LanePut}
 use Rattle.nob_dispatch_lanes.specs.declared.ends.LaneTake.{LaneTake}
 use Rattle.nob_dispatch_lanes.specs.Ends.{given_by, got_by}
 use Rattle.nob_dispatch.specs.KeeperError.{KeeperError}
-use Rattle.nob_dispatch.specs.KeeperError.TheVariants as errors
 use Rattle.nob_dispatch.specs.declared.errand.Errand.{Errand}
 use Rattle.nob_dispatch.specs.declared.errand.Return.{Return}
 use Rattle.nob_dispatch.specs.Ends.{ended, with_job}
+use Rattle.nob_dispatch.specs.Steps.{object_in}
 use Rattle.nob_dispatch.specs.Working.{Working, with_errand}
 use Rattle.nob_dispatch.specs.Stakes.{Stakes}
+use Rattle.nob_dispatch.specs.Faults.{is_memory}
 use Rattle.nob_dispatch.specs.declared.hand.Deed.{Deed}
 use Rattle.nob_dispatch.specs.declared.hand.Deed.TheVariants as deeds
 
@@ -21,14 +22,6 @@ given end = given_by end.pass
 -- what an end of a lane got, the first first
 abbrev pub taken : {X : Type 0} → LaneTake X → List X
 taken end = got_by end.pass
-
--- whether an error of the keeper is want of memory
-abbrev pub is_memory : KeeperError → Bool
-is_memory errors.OutOfMemory = true
-is_memory errors.Stamp = false
-is_memory errors.Seats = false
-is_memory errors.Size = false
-is_memory errors.NoTrace = false
 
 -- a job's number, and the index of its object
 abbrev pub place : Job → ℕ × ℕ
@@ -61,7 +54,7 @@ pub record Serving (O : Type 0) : Type 0 where
   -- the objects that it gave back
   pub given : List (Return O)
   -- its worker
-  pub worker : Working
+  pub worker : Working O
   -- the error of the keeper for which it gives its jobs up, if there was one
   pub fault : Option KeeperError
   -- whether it heard that nobody gets what it gives back
@@ -101,6 +94,14 @@ module _ {O : Type 0} where
   -- an errand was got: its job is the next, and the worker keeps it with its object
   abbrev pub Gets : (old new : Serving O) → Type 0
   Gets old new = (errand : Errand O) × (new ≡ record { taken = old.taken ++ errand ∷ []; given = old.given; worker = with_errand errand old.worker; fault = old.fault; is_alone = old.is_alone; stakes = old.stakes })
+
+  -- nothing is given back, or the object that was there
+  abbrev pub GivesAtMost : Option O → (old new : List (Return O)) → Type 0
+  GivesAtMost object old new = (new ≡ old) ⊎ ((back : Return O) × (new ≡ old ++ back ∷ []) × (object ≡ Some back.object))
+
+  -- a turn of a hand gives back the object that its worker has, as it is, or nothing
+  abbrev pub GivesBack : (old new : Serving O) → Type 0
+  GivesBack old new = GivesAtMost (object_in old.worker.course) old.given new.given
 
   -- a hand whose job has ended keeps none, and so does one that has nothing to do, or has just begun to give up
   abbrev pub IsFreeAfter : Result Deed KeeperError → Serving O → Type 0

@@ -22,7 +22,8 @@ use std::alloc::Global;
 use std::marker::Model;
 use std::sync::Wait;
 
-/// The maximum number of objects that are away at a time: half of what a lane holds, so that giving never waits.
+/// The maximum number of objects that are away at a time: half of what a lane holds, so that giving
+/// never waits.
 pub const MAX_AWAY: u64 = 512;
 
 /// What a desk did in a turn.
@@ -32,8 +33,8 @@ pub enum Assigned {
     Handed,
     /// Something else.
     Did,
-    /// Nothing now: it is tried again. There is no room for a Finish, or as many objects are away as
-    /// may be, or a job waits for its object.
+    /// Nothing now: it is tried again. There is no room for a Finish, or as many objects are away
+    /// as may be, or a job waits for its object.
     Later,
     /// Nothing: there is no job to claim, or no more is claimed.
     Idle,
@@ -73,8 +74,8 @@ impl<O: Object> Model for Desk<O> {
 }
 
 impl<O: Object> Desk<O> {
-    /// A dispatcher over a seat, with no objects, and its ends. The caller's condition: the seat and
-    /// the ends are unused. It takes no memory.
+    /// A dispatcher over a seat, with no objects, and its ends. The caller's condition: the seat
+    /// and the ends are unused. It takes no memory.
     pub fn new(
         alloc: Global,
         seat: Seat,
@@ -179,9 +180,9 @@ impl<O: Object> Desk<O> {
     }
 
     /// One turn: all objects that are on their way back now come back, and then the dispatcher has
-    /// its turn, whose errand is given to the lane. It claims nothing while as many objects are away
-    /// as may be. It waits neither for a job nor for an object. After K2, or another error of the
-    /// keeper, the next turn goes on where this one stood: nothing is lost.
+    /// its turn, whose errand is given to the lane. It claims nothing while as many objects are
+    /// away as may be. It waits neither for a job nor for an object. After K2, or another error of
+    /// the keeper, the next turn goes on where this one stood: nothing is lost.
     pub fn turn<R: Wait, C: JobCalls>(
         &mut self,
         rt: &R,
@@ -258,8 +259,8 @@ impl<O: Object> Desk<O> {
         }
     }
 
-    /// Its parts, which are tied: all that its dispatcher has, the job of the errand that it couldn't
-    /// give, and its ends.
+    /// Its parts, which are tied: all that its dispatcher has, the job of the errand that it
+    /// couldn't give, and its ends.
     pub fn end(
         self,
     ) -> (

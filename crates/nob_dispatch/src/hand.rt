@@ -1,14 +1,17 @@
 //! A worker with the ends of its lanes.
 
-ghost use Rattle.std.specs.Prelude.{◌≡◌, ◌≢◌, [], ℕ, List, Some, None, true, false, reverse, MatchOption};
+ghost use Rattle.std.specs.Prelude.{◌≡◌, ◌≢◌, [], ℕ, List, Some, None, true, false, reverse, IfErr, MatchOption};
+ghost use Rattle.nob_dispatch.specs.Faults as faults;
 ghost use Rattle.nob_dispatch.specs.Serving as serving;
 ghost use Rattle.nob_dispatch.specs.Stakes as ends;
 ghost use Rattle.nob_dispatch_lanes.specs.Ends.{stake_of};
+ghost use Rattle.nob_dispatch.specs.Steps as steps;
 ghost use Rattle.nob_dispatch.specs.Working as working;
 
 use crate::calls::JobCalls;
 use crate::errand::{Errand, Return};
 use crate::gate::Gate;
+use crate::runs::Runs;
 use crate::worker::{Progress, Worker};
 use nob_dispatch_lanes::{LanePut, LaneTake};
 use nob_dispatch_objects::Object;
@@ -67,7 +70,13 @@ impl<O: Object> Hand<O> {
         ensures { result ≡ record {
           taken = [];
           given = [];
-          worker = record { receipts = []; job = None; running = None };
+          worker = record {
+            receipts = [];
+            job = None;
+            running = None;
+            course = None;
+            closing = None;
+          };
           fault = None;
           is_alone = returns.has_heard_gone;
           stakes = ends.of_hand errands returns;
@@ -88,6 +97,7 @@ impl<O: Object> Hand<O> {
         ensures got { self.old.worker.job ≡ None → result ≡ true
             → serving.Gets self.old self.new }
         ensures none { result ≡ false → (self.old.worker.job ≡ None) × (self.new ≡ self.old) }
+        ensures fault { self.new.fault ≡ self.old.fault }
         ensures stakes { self.new.stakes ≡ self.old.stakes }
     {
         if !self.worker.is_free() {
@@ -102,13 +112,15 @@ impl<O: Object> Hand<O> {
         }
     }
 
-    /// Takes the next errand if there is one now and the worker is free: whether the worker keeps one
-    /// then. It doesn't wait, and may find none while another thread is just giving or getting one.
+    /// Takes the next errand if there is one now and the worker is free: whether the worker keeps
+    /// one then. It doesn't wait, and may find none while another thread is just giving or getting
+    /// one.
     pub fn try_get<R: Wait>(&mut self, rt: &R) -> bool
         ensures kept { self.old.worker.job ≢ None → (result ≡ true) × (self.new ≡ self.old) }
         ensures got { self.old.worker.job ≡ None → result ≡ true
             → serving.Gets self.old self.new }
         ensures none { result ≡ false → (self.old.worker.job ≡ None) × (self.new ≡ self.old) }
+        ensures fault { self.new.fault ≡ self.old.fault }
         ensures stakes { self.new.stakes ≡ self.old.stakes }
     {
         if !self.worker.is_free() {
@@ -126,16 +138,21 @@ impl<O: Object> Hand<O> {
     /// One turn: a step of the job that the worker keeps, as `Worker::turn` has it. An object that
     /// comes back is given to the lane at once, before the Finish. Where the hand heard that nobody
     /// gets it any more it is let go. After an error of the keeper other than K2 the hand gives up
-    /// the job that it keeps, and from then on each that it gets: the object goes back over the lane,
-    /// and the job isn't ended.
+    /// the job that it keeps, and from then on each that it gets: the object goes back over the
+    /// lane, and the job isn't ended.
     pub fn turn<R: Wait, C: JobCalls, G: Gate>(
         &mut self,
         rt: &R,
         keeper: &C,
         gate: &G,
     ) -> Result<Deed, KeeperError>
+    where
+        O: Runs,
         ensures taken { self.new.taken ≡ self.old.taken }
+        ensures given { serving.GivesBack self.old self.new }
+        ensures runs { working.RunsAtMost O.begins O.resumes self.old.worker self.new.worker }
         ensures fault { self.new.fault ≡ serving.fault_after result self.old.fault }
+        ensures error { IfErr result (λ error. faults.IsAnswered (C.answered keeper.now) error) }
         ensures free { serving.IsFreeAfter result self.new }
         ensures stakes { self.new.stakes ≡ self.old.stakes }
     {
@@ -164,9 +181,10 @@ impl<O: Object> Hand<O> {
 
     // Gives up the job that it keeps, if it keeps one, and from now on each that it gets.
     fn give_up<R: Wait>(&mut self, rt: &R, error: KeeperError)
-        requires { serving.is_memory error ≡ false }
+        requires { faults.is_memory error ≡ false }
         ensures fault { self.new.fault ≡ Some error }
         ensures taken { self.new.taken ≡ self.old.taken }
+        ensures given { serving.GivesBack self.old self.new }
         ensures worker { self.new.worker ≡ working.freed self.old.worker }
         ensures stakes { self.new.stakes ≡ self.old.stakes }
     {
@@ -176,8 +194,8 @@ impl<O: Object> Hand<O> {
         }
     }
 
-    /// Its parts, which are tied: its seat, the errand that it keeps, if its method hasn't ended, and
-    /// its ends.
+    /// Its parts, which are tied: its seat, the errand that it keeps, if its method hasn't ended,
+    /// and its ends.
     pub fn end(
         self,
     ) -> (
@@ -189,6 +207,8 @@ impl<O: Object> Hand<O> {
         ensures seat { result.0 ≡ self.worker.receipts }
         ensures errand { MatchOption result.1 (self.worker.running ≡ None)
             (λ errand. self.worker.running ≡ Some errand.job) }
+        ensures object { MatchOption result.1 (self.worker.course ≡ None)
+            (λ errand. steps.object_in self.worker.course ≡ Some errand.object) }
         ensures errands { serving.taken result.2 ≡ self.taken }
         ensures returns { serving.given result.3 ≡ self.given }
         ensures stakes { ends.of_hand result.2 result.3 ≡ self.stakes }
@@ -207,7 +227,7 @@ impl<O: Object> Hand<O> {
 
 /// Whether an error of the keeper is want of memory.
 pub(crate) fn is_memory(error: KeeperError) -> bool
-    ensures { result ≡ serving.is_memory error }
+    ensures { result ≡ faults.is_memory error }
 {
     match error {
         KeeperError::OutOfMemory => true,
@@ -226,6 +246,8 @@ fn send_back<O: Object, R: Wait>(rt: &R, returns: &mut LanePut<Return<O>>, back:
         (serving.returned (reverse (serving.given returns.old)))
         → serving.Follows returns.new.has_heard_gone None all
         (serving.returned (reverse (serving.given returns.new))) }
+    ensures given { serving.GivesAtMost (Some back.object) (serving.given returns.old)
+        (serving.given returns.new) }
     ensures stake { stake_of returns.new.pass ≡ stake_of returns.old.pass }
 {
     if returns.has_heard_gone() {

@@ -1,5 +1,5 @@
-//! Jobs, and a pool that runs objects in threads: who claims jobs and who carries them out, each with
-//! its ends of the two lanes between them, and the loop of a worker's thread.
+//! Jobs, and a pool that runs objects in threads: who claims jobs and who carries them out, each
+//! with its ends of the two lanes between them, and the loop of a worker's thread.
 #![tactic(auto)]
 
 mod calls;
@@ -9,6 +9,7 @@ mod errand;
 mod gate;
 mod hand;
 mod pool;
+mod runs;
 mod shelf;
 mod stage;
 mod telling;
@@ -22,5 +23,6 @@ pub use gate::{Gate, OpenGate};
 pub use hand::{Deed, Hand};
 pub use nob_keeper::{KeeperError, Seat};
 pub use pool::{carry_out, serve};
+pub use runs::Runs;
 pub use shelf::{AddError, Place, Shelf};
 pub use worker::{Progress, Worker};

@@ -1,7 +1,11 @@
 //! How far a job is.
 
-ghost use Rattle.std.specs.Prelude.{◌≡◌, ◌≢◌, ◌∷◌, Some, None, true, false, IfOk, OnErr};
+ghost use Rattle.std.specs.Prelude.{◌≡◌, ◌≢◌, ◌∷◌, Some, None, true, false, IfOk, IfErr, OnOk, OnErr};
 ghost use Rattle.nob_dispatch.specs.Ends.{finishes, is_claim, ended, claimed, was_accepted};
+ghost use Rattle.nob_keeper.specs.Seats.{Adds};
+ghost use Rattle.nob_model_types.specs.declared.event.Event.TheVariants as events;
+ghost use Rattle.nob_model_types.specs.declared.event.Outcome.TheVariants as endings;
+ghost use Rattle.nob_pickle.specs.declared.value.Value.TheVariants as values;
 ghost use Rattle.nob_dispatch.specs.declared.stage.AfterFinish.TheVariants.{Ended};
 
 use crate::calls::JobCalls;
@@ -56,9 +60,12 @@ pub(crate) enum Keeping<O: Object> {
 }
 
 impl Finish {
+    ghost use Rattle.nob_dispatch.specs.Closings.{IsAfter};
+
     // What ends a job so.
     pub(crate) fn new(job: JobNo, ending: Ending) -> Finish
-        ensures { result.job ≡ job }
+        ensures job { result.job ≡ job }
+        ensures event { result.event ≡ events.Finish job ending }
     {
         Finish {
             job,
@@ -77,6 +84,9 @@ impl Finish {
             → ended seat.new ≡ self.now.job ∷ ended seat.old) }
         ensures more { IfOk result (λ after. after ≢ Ended → ended seat.new ≡ ended seat.old) }
         ensures claimed { claimed seat.new ≡ claimed seat.old }
+        ensures adds { OnOk result (Adds seat.old seat.new self.now.event 0) }
+        ensures after { IfOk result (λ after. IsAfter after seat.new) }
+        ensures error { IfErr result (λ error. C.answered keeper.now error) }
         ensures err { OnErr result (seat.new ≡ seat.old) }
     {
         keeper.call(rt, seat, &self.event)?;
@@ -85,7 +95,8 @@ impl Finish {
 
     // What ends a job whose answer can't be sent.
     pub(crate) fn fault(job: JobNo) -> Finish
-        ensures { result.job ≡ job }
+        ensures job { result.job ≡ job }
+        ensures event { result.event ≡ events.Finish job (endings.Fault values.Unit) }
     {
         Finish::new(job, Ending::Fault(Value::Unit))
     }
@@ -103,10 +114,13 @@ pub(crate) enum AfterFinish {
 }
 
 impl AfterFinish {
+    ghost use Rattle.nob_dispatch.specs.Closings.{IsAfter};
+
     // What is next after the Finish of the newest receipt.
     pub(crate) fn of(seat: &Seat) -> AfterFinish
         ensures ended { result ≡ Ended → was_accepted seat.now ≡ true }
         ensures more { result ≢ Ended → was_accepted seat.now ≡ false }
+        ensures after { IsAfter result seat.now }
     {
         let Some(receipt) = seat.newest() else {
             return AfterFinish::Later;
@@ -123,8 +137,12 @@ impl AfterFinish {
 }
 
 impl Stage {
+    ghost use Rattle.nob_dispatch.specs.Steps as steps;
+
     // What is next after what a method came to.
-    pub(crate) fn of(outcome: Outcome) -> Stage {
+    pub(crate) fn of(outcome: Outcome) -> Stage
+        ensures { steps.Comes outcome result }
+    {
         match outcome {
             Outcome::Answer(value) => Stage::End(Ending::Answer(value)),
             Outcome::Fault(value) => Stage::End(Ending::Fault(value)),

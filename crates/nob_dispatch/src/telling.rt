@@ -1,6 +1,7 @@
 //! What a method that runs is told, and what is next for it.
 
-ghost use Rattle.std.specs.Prelude.{◌≡◌, IfOk};
+ghost use Rattle.std.specs.Prelude.{◌≡◌, IfOk, IfErr};
+ghost use Rattle.nob_dispatch.specs.KeeperError.TheVariants as errors;
 ghost use Rattle.nob_dispatch.specs.Telling as telling;
 
 use crate::stage::Stage;
@@ -36,7 +37,8 @@ pub(crate) fn is_not_ready(seat: &Seat) -> bool
 
 // What a method is told of the newest receipt. Only memory fails it.
 pub(crate) fn done_of(seat: &Seat) -> Result<Done, KeeperError>
-    ensures { IfOk result (λ done. done ≡ telling.told seat.now) }
+    ensures done { IfOk result (λ done. done ≡ telling.told seat.now) }
+    ensures memory { IfErr result (λ error. error ≡ errors.OutOfMemory) }
 {
     let Some(receipt) = seat.newest() else {
         return Ok(Done::Made);

@@ -1,12 +1,16 @@
 //! Who carries jobs out.
 
-ghost use Rattle.std.specs.Prelude.{◌≡◌, ◌≢◌, ◌∷◌, [], Some, None, true, OnOk, OnErr, IfErr, IfSome, MatchOption};
+ghost use Rattle.std.specs.Prelude.{◌≡◌, ◌≢◌, ◌∷◌, [], Some, None, true, OnOk, OnErr, IfOk, IfErr, IfSome, MatchOption};
 ghost use Rattle.nob_dispatch.specs.Ends.{ended};
+ghost use Rattle.nob_dispatch.specs.Faults as faults;
+ghost use Rattle.nob_dispatch.specs.Steps as steps;
 ghost use Rattle.nob_dispatch.specs.Working as working;
+ghost use Rattle.nob_dispatch.specs.KeeperError.TheVariants as errors;
 
 use crate::calls::JobCalls;
 use crate::errand::{Errand, Return};
 use crate::gate::Gate;
+use crate::runs::Runs;
 use crate::stage::{AfterFinish, Finish, Keeping, Stage};
 use crate::telling::{done_of, is_not_ready, stage_after};
 use nob_dispatch_objects::Object;
@@ -32,7 +36,8 @@ pub enum Progress<O: Object> {
 }
 
 /// Who carries jobs out, one at a time, over a seat of its own. Contracts see its receipts, the
-/// number of the job that it keeps, and that job while it has its object.
+/// number of the job that it keeps, that job while it has its object, with the object and what is
+/// next for its method, and then the event that is to end the job.
 #[derive(Drop)]
 pub struct Worker<O: Object> {
     seat: Seat,
@@ -40,9 +45,9 @@ pub struct Worker<O: Object> {
 }
 
 impl<O: Object> Model for Worker<O> {
-    ghost use Rattle.nob_dispatch.specs.Working.{Working, job_in, running_in};
+    ghost use Rattle.nob_dispatch.specs.Working.{Working, job_in, running_in, course_in, closing_in};
 
-    ghost Value = { Working };
+    ghost Value = { Working O };
 
     ghost use Rattle.std.specs.Coded.{codes};
     ghost use Rattle.nob_pickle.specs.Marks.{trees_code};
@@ -53,6 +58,8 @@ impl<O: Object> Model for Worker<O> {
       receipts = worker.seat;
       job = job_in worker.keeping;
       running = running_in worker.keeping;
+      course = course_in worker.keeping;
+      closing = closing_in worker.keeping;
     } };
 }
 
@@ -60,7 +67,13 @@ impl<O: Object> Worker<O> {
     /// A worker over a seat, which keeps no job. The caller's condition: the seat is unused.
     pub fn new(seat: Seat) -> Worker<O>
         requires { seat ≡ [] }
-        ensures { result ≡ record { receipts = []; job = None; running = None } }
+        ensures { result ≡ record {
+          receipts = [];
+          job = None;
+          running = None;
+          course = None;
+          closing = None;
+        } }
     {
         Worker {
             seat,
@@ -104,9 +117,15 @@ impl<O: Object> Worker<O> {
         keeper: &C,
         gate: &G,
     ) -> Result<Progress<O>, KeeperError>
+    where
+        O: Runs,
         ensures got { working.got self.new ≡ working.got self.old }
         ensures objects { working.GivesBack result self.old self.new }
         ensures free { working.IsFreeAfter result self.new }
+        ensures runs { IfOk result (λ progress.
+            working.Runs O.begins O.resumes progress self.old self.new) }
+        ensures error { IfErr result (λ error. faults.IsAnswered (C.answered keeper.now) error) }
+        ensures err { OnErr result (self.new ≡ self.old) }
     {
         if let Some(back) = self.hand_back() {
             return Ok(Progress::Back(back));
@@ -165,9 +184,15 @@ impl<O: Object> Worker<O> {
         keeper: &C,
         gate: &G,
     ) -> Result<Progress<O>, KeeperError>
+    where
+        O: Runs,
         ensures got { working.got self.new ≡ working.got self.old }
         ensures objects { working.GivesBack result self.old self.new }
         ensures free { working.IsFreeAfter result self.new }
+        ensures runs { IfOk result (λ progress.
+            working.Runs O.begins O.resumes progress self.old self.new) }
+        ensures error { IfErr result (λ error. faults.IsAnswered (C.answered keeper.now) error) }
+        ensures err { OnErr result (self.new ≡ self.old) }
     {
         let Keeping::Running(errand, stage) = &mut self.keeping else {
             return self.finish(rt, keeper, gate);
@@ -185,10 +210,16 @@ impl<O: Object> Worker<O> {
         keeper: &C,
         gate: &G,
     ) -> Result<Progress<O>, KeeperError>
+    where
+        O: Runs,
         requires { self.old.running ≡ None }
         ensures got { working.got self.new ≡ working.got self.old }
         ensures objects { working.GivesBack result self.old self.new }
         ensures free { working.IsFreeAfter result self.new }
+        ensures runs { IfOk result (λ progress.
+            working.Runs O.begins O.resumes progress self.old self.new) }
+        ensures error { IfErr result (λ error. faults.IsAnswered (C.answered keeper.now) error) }
+        ensures err { OnErr result (self.new ≡ self.old) }
     {
         let Keeping::Ending(finish) = &self.keeping else {
             return Ok(Progress::Idle);
@@ -234,6 +265,8 @@ impl<O: Object> Worker<O> {
         ensures seat { result.0 ≡ self.receipts }
         ensures errand { MatchOption result.1 (self.running ≡ None)
             (λ errand. self.running ≡ Some errand.job) }
+        ensures object { MatchOption result.1 (self.course ≡ None)
+            (λ errand. steps.object_in self.course ≡ Some errand.object) }
     {
         let Worker { seat, keeping } = self;
         match keeping {
@@ -244,7 +277,7 @@ impl<O: Object> Worker<O> {
 }
 
 // The next step of a method that runs. False where it is to be tried again later.
-fn advance<O: Object, R: Wait, C: JobCalls, G: Gate>(
+fn advance<O: Runs, R: Wait, C: JobCalls, G: Gate>(
     rt: &R,
     keeper: &C,
     gate: &G,
@@ -254,12 +287,16 @@ fn advance<O: Object, R: Wait, C: JobCalls, G: Gate>(
 ) -> Result<bool, KeeperError>
     ensures ended { ended seat.new ≡ ended seat.old }
     ensures job { errand.new.job ≡ errand.old.job }
+    ensures goes { IfOk result (λ _. steps.Goes O.begins O.resumes seat.old seat.new
+        stage.old errand.old stage.new errand.new) }
+    ensures err { OnErr result
+        ((seat.new ≡ seat.old) × (errand.new ≡ errand.old) × (stage.new ≡ stage.old)) }
+    ensures error { IfErr result (λ error. faults.IsAnswered (C.answered keeper.now) error) }
 {
     match stage {
         Stage::Begin => {
             gate.enter(errand.job.job);
-            let outcome = errand.object.invoke(errand.job.method, &errand.job.value);
-            *stage = Stage::of(outcome);
+            *stage = begin(errand);
             Ok(true)
         }
         Stage::Ask(request) => {
@@ -276,10 +313,29 @@ fn advance<O: Object, R: Wait, C: JobCalls, G: Gate>(
             Ok(true)
         }
         Stage::Tell => {
-            let done = done_of(seat)?;
-            *stage = Stage::of(errand.object.resume(&done));
+            *stage = tell(seat, errand)?;
             Ok(true)
         }
         Stage::End(_) => Ok(true),
     }
+}
+
+// The method of a job begins at its object: what is next for it.
+fn begin<O: Runs>(errand: &mut Errand<O>) -> Stage
+    ensures { steps.IsBegun O.begins errand.old result errand.new }
+{
+    let outcome = errand.object.begin(errand.job.method, &errand.job.value);
+    Stage::of(outcome)
+}
+
+// A method is told what the newest receipt says: what is next for it. Only memory fails it.
+fn tell<O: Runs>(seat: &Seat, errand: &mut Errand<O>) -> Result<Stage, KeeperError>
+    ensures told { IfOk result (λ stage.
+        steps.IsTold O.resumes seat.now errand.old stage errand.new) }
+    ensures memory { IfErr result (λ error. error ≡ errors.OutOfMemory) }
+    ensures err { OnErr result (errand.new ≡ errand.old) }
+{
+    let done = done_of(seat)?;
+    let outcome = errand.object.go_on(&done);
+    Ok(Stage::of(outcome))
 }

@@ -1,13 +1,10 @@
 //! The jobs of a node: the desk, as the threads of a node share it.
 
-ghost use Rattle.std.specs.Prelude.{◌≡◌, true, false, IfOk, IfErr, OnOk, OnErr};
-ghost use Rattle.nob_dispatch.specs.Assigning as assigning;
-ghost use Rattle.nob_dispatch.specs.Shelves as shelves;
-ghost use Rattle.nob_dispatch.specs.declared.shelf.Place.TheVariants.{Here, Away};
-ghost use Rattle.nob_node_parts.specs.declared.object.Kept.TheVariants as kept;
+ghost use Rattle.std.specs.Prelude.{◌≡◌, IfOk, IfErr};
 
+use crate::putting::{Placed, put_own};
 use nob_dispatch::{Assigned, Desk, Place};
-use nob_dispatch_objects::{Agent, Object};
+use nob_dispatch_objects::Object;
 use nob_keeper::{Keeper, KeeperError, lock_soon};
 use nob_node_parts::{Failure, Idlers, Kept};
 use nob_offers::Retry;
@@ -29,12 +26,6 @@ pub struct NodeJobs<B: Object> {
     serving: AtomicU64,
     // Whether there is a job that can't be ended or handed on now.
     late: Retry,
-}
-
-/// That an object was put at an index of a desk.
-#[derive(Clone, Copy, Debug, PartialEq, Eq)]
-pub struct Placed {
-    index: u64,
 }
 
 impl<B: Object> NodeJobs<B> {
@@ -250,47 +241,6 @@ fn assign_some<B: Object, R: Wait>(
         }
     }
     unreachable!()
-}
-
-// Puts an application's object at an index that has no place yet. Its place is made first: so the
-// object comes back where there is none.
-#[tactic(auto, using(crate::proofs::Placing::place_given, crate::proofs::Placing::last_given))]
-fn put_own<B: Object>(
-    desk: &mut Desk<Kept<B>>,
-    alloc: Global,
-    index: u64,
-    object: B,
-) -> Result<Placed, B>
-    ensures placed { IfOk result (λ placed. placed.index ≡ index) }
-    ensures here { OnOk result (desk.new ≡ assigning.with_shelf
-        (shelves.with_place index (Here (kept.Own object)) desk.old.dispatcher.shelf) desk.old) }
-    ensures back { IfErr result (λ back. back ≡ object) }
-    ensures same { OnErr result (desk.new ≡ desk.old) }
-{
-    if !make_place(desk, alloc, index) {
-        return Err(object);
-    }
-    let Ok(()) = desk.give_back_lent(index, Kept::Own(object)) else {
-        unreachable!();
-    };
-    Ok(Placed { index })
-}
-
-// Makes the place of an index that has none yet, whose object is away: whether there was room. An
-// agent, which takes no memory, is put there and let go.
-#[tactic(auto, using(crate::proofs::Placing::place_given, crate::proofs::Placing::last_given))]
-fn make_place<B: Object>(desk: &mut Desk<Kept<B>>, alloc: Global, index: u64) -> bool
-    ensures made { result ≡ true → desk.new ≡ assigning.with_shelf
-        (shelves.with_place index Away desk.old.dispatcher.shelf) desk.old }
-    ensures none { result ≡ false → desk.new ≡ desk.old }
-{
-    let Ok(()) = desk.add(index, Kept::Agent(Agent::new(alloc))) else {
-        return false;
-    };
-    let Some(_agent) = desk.lend(index) else {
-        unreachable!();
-    };
-    true
 }
 
 // Whether objects are still to come back.
