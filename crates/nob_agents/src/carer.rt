@@ -57,8 +57,8 @@ impl Carer {
     }
 
     /// One turn: whatever the space could do of these, once each: an item from each peer is acted
-    /// on, a message settled, a surrogate given up, an object withdrawn. It is idle only where there
-    /// was nothing of these to do.
+    /// on, a message settled, a surrogate given up, an object withdrawn. It is idle only where
+    /// there was nothing of these to do.
     pub fn turn<R: Wait, C: Calls>(&mut self, rt: &R, keeper: &C) -> Result<Turn, KeeperError> {
         let work = keeper.look(rt).work;
         let mut count: u64 = 0;

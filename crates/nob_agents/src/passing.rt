@@ -73,8 +73,8 @@ fn leads_to<P: PutParcel + Drop>(ways: &[Way<P>], peer: SpaceId) -> bool
     ways.iter().any(|way| way.peer() == peer)
 }
 
-// Whether an event is what an agent with these ways asks: a Transmit to a peer to which one leads, a
-// tick of the session with it, or its close.
+// Whether an event is what an agent with these ways asks: a Transmit to a peer to which one leads,
+// a tick of the session with it, or its close.
 pub(crate) fn is_about<P: PutParcel + Drop>(ways: &[Way<P>], event: &Event) -> bool
     ensures { result ≡ sending.is_about ways.now event.now }
 {
@@ -96,7 +96,8 @@ pub(crate) fn pass_on<P: PutParcel + Drop>(
     ensures fed { (f : ℕ → List ParcelOf) → AreApart ways.old.items → AllFed f ways.old.items
         → IfOk result (λ passed. passed ≡ true
         → AllFed (with_fed f peer parcel) ways.new.items × AreApart ways.new.items) }
-    ensures leads { IfOk result (λ passed. passed ≡ true → LeadAlike ways.old.items ways.new.items) }
+    ensures leads { IfOk result (λ passed. passed ≡ true
+        → LeadAlike ways.old.items ways.new.items) }
     ensures kept { IfOk result (λ passed. passed ≢ true → ways.new.items ≡ ways.old.items) }
     ensures err { OnErr result (ways.new.items ≡ ways.old.items) }
 {
