@@ -14,6 +14,7 @@ use Rattle.nob_pickle.proofs.value.Values.TheLaws.TheKnot as values
 use Rattle.nob_agents.specs.declared.parcels.PutParcel as PutParcel
 use Rattle.nob_agents.specs.declared.parcels.TakeParcel as TakeParcel
 use Rattle.nob_agents.specs.contracts.carer.Carer as Carer
+use Rattle.nob_agents.specs.contracts.carer.Carer.TheInside as CarerInside
 use Rattle.nob_agents.specs.contracts.asking.Asking as Asking
 use Rattle.nob_agents.specs.contracts.timing.Timing as Timing
 use Rattle.nob_agents.specs.contracts.sender.Sender as Sender
@@ -40,8 +41,8 @@ timing_send = search (crosses, sendable) depth 60 fits 20000
 
 pub carer_send : IsSend Carer.the_row
 carer_send =
-    let T = Carer.the_type in
-    recorded_send (Struct (shape T)) T.D T.to T.to_one (struct_send (shape T) (seat_send, tt))
+    let T = CarerInside.the_type in
+    view_send CarerInside.the_row _ _ _ _ (recorded_send (Struct (shape T)) T.D T.to T.to_one (struct_send (shape T) (seat_send, tt)))
 
 -- what takes, where the end of the link may cross
 module _ (E : RattleType) (g : TakeParcel.Ghosts E.Denot) (crossing : IsSend E) where

@@ -1,5 +1,5 @@
 -- A way whose link's other end is gone.
-use Rattle.std.proofs.Common.{◌≡◌, true, false, true≢false, List, [], ◌∷◌, ◌++◌, sym, ap, ◌∙◌, append_assoc}
+use Rattle.std.proofs.Common.{◌≡◌, true, false, true≢false, List, ◌∷◌, ◌++◌, sym, ap, ◌∙◌, append_assoc}
 use Rattle.nob_link.specs.declared.parcel.Parcel.{Parcel}
 use Rattle.nob_fault.specs.Shims.{outcome, shim_after}
 use Rattle.nob_agents.specs.Ways.{Way, IsTied}

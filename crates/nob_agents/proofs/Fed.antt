@@ -1,6 +1,6 @@
 -- What ways were fed, after a change of one of them.
-use Rattle.std.proofs.Common.{◌≡◌, ◌≢◌, ℕ, ◌+◌, ◌≤◌, zero, suc, Bool, true, false, List, [], ◌∷◌, ◌++◌, length, map, take, reverse, Option, Some, None, get_or, refl, sym, ap, ◌∙◌, subst, arith}
-use Rattle.std.specs.Prelude.{◌==◌, if◌then◌else◌, slice_get, slice_set}
+use Rattle.std.proofs.Common.{◌≡◌, ◌≢◌, ℕ, ◌+◌, ◌≤◌, zero, suc, Bool, true, false, true≢false, List, [], ◌∷◌, ◌++◌, length, map, take, reverse, Option, Some, None, get_or, refl, sym, ap, ◌∙◌, subst, arith}
+use Rattle.std.specs.Prelude.{◌==◌, ◌||◌, if◌then◌else◌, slice_get, slice_set}
 use Rattle.std.specs.List.{AllByRecursion}
 use Rattle.std.proofs.lemmas.Bool.Decides.{nat_tests}
 use Rattle.std.proofs.lemmas.Option.{none-some, slice_get-get_or}
@@ -15,7 +15,7 @@ use Rattle.nob_link.specs.declared.parcel.Parcel.{Parcel}
 use Rattle.nob_link.specs.declared.parcel.Parcel.TheVariants as parcels
 use Rattle.nob_keeper.specs.Receipt.{Receipt}
 use Rattle.nob_agents.specs.Ways.{Way, IsTied}
-use Rattle.nob_agents.specs.Sending.{AllFed, AreApart, with_fed, fed, transmitted, parcels_to, parcels_with, frames_in, given_to, AllGoneOn, AreTied}
+use Rattle.nob_agents.specs.Sending.{AllFed, AreApart, with_fed, fed, transmitted, parcels_to, parcels_with, frames_in, given_to, AllGoneOn, AreTied, leads_to, is_about, AreAbout, LeadAlike}
 
 none_some : {X : Type 0} (x : X) → None ≡ Some x → ⊥
 none_some x e = none-some x e
@@ -81,6 +81,26 @@ pub apart_one : (ways : List Way) (at : ℕ) (old new : Way) → slice_get ways 
 apart_one [] at old new there same apart = tt
 apart_one (w ∷ ws) zero old new there same apart = (other_peers w.peer new.peer ws (ap (λ (x : Way). x.peer) (some_is w old there) ∙ sym same) apart.0, apart.1)
 apart_one (w ∷ ws) (suc at) old new there same apart = (apart_from w.peer ws at old new there same apart.0, apart_one ws at old new there same apart.1)
+
+-- ways lead where they led where one is replaced by one to the same peer
+pub leads_alike : (ways : List Way) (at : ℕ) (old new : Way) → slice_get ways at ≡ Some old → new.peer ≡ old.peer → LeadAlike ways (slice_set ways at new)
+leads_alike [] at old new there same peer = refl
+leads_alike (w ∷ ws) zero old new there same peer =
+    let is : new.peer ≡ w.peer = same ∙ ap (λ (x : Way). x.peer) (sym (some_is w old there)) in
+    ap (λ (p : ℕ). (p == peer) || leads_to peer ws) is
+leads_alike (w ∷ ws) (suc at) old new there same peer = ap (λ (b : Bool). (w.peer == peer) || b) (leads_alike ws at old new there same peer)
+
+-- what is about the peers of ways is about those of ways that lead alike
+about_alike : (old new : List Way) → LeadAlike old new → (event : Event) → is_about old event ≡ true → is_about new event ≡ true
+about_alike old new alike (events.Transmit peer) is = alike peer ∙ is
+about_alike old new alike (events.Tick peer) is = alike peer ∙ is
+about_alike old new alike (events.Close peer) is = alike peer ∙ is
+about_alike old new alike _ is = absurd (true≢false (sym is))
+
+-- so is all that was asked
+pub all_about_alike : (old new : List Way) → LeadAlike old new → (receipts : List Receipt) → AreAbout old receipts → AreAbout new receipts
+all_about_alike old new alike [] all = tt
+all_about_alike old new alike (r ∷ rs) all = (about_alike old new alike r.event all.0, all_about_alike old new alike rs all.1)
 
 -- ways were fed alike by two functions that agree
 pub fed_alike : (f g : ℕ → List Parcel) (ways : List Way) → ((p : ℕ) → f p ≡ g p) → AllFed f ways → AllFed g ways
@@ -163,17 +183,19 @@ all_gone_on handled new [] all q = refl
 all_gone_on handled new (receipt ∷ earlier) all q = ap (λ (l : List Parcel). reverse l ++ transmitted q earlier) (take_all handled (parcels_to q receipt) (none_left receipt handled all q))
 
 -- an agent asked its space for something, once all had gone on
-pub tied_after_asking : (handled : ℕ) (new : Receipt) (receipts : List Receipt) (ways : List Way) → AllGoneOn handled receipts → AreTied (record { ways = ways; receipts = receipts; handled = handled }) → AreTied (record { ways = ways; receipts = new ∷ receipts; handled = 0 })
-tied_after_asking handled new receipts ways all tied = record {
+pub tied_after_asking : (handled : ℕ) (new : Receipt) (receipts : List Receipt) (ways : List Way) → AllGoneOn handled receipts → is_about ways new.event ≡ true → AreTied (record { ways = ways; receipts = receipts; handled = handled }) → AreTied (record { ways = ways; receipts = new ∷ receipts; handled = 0 })
+tied_after_asking handled new receipts ways all about tied = record {
   tied = fed_alike (λ p. fed p handled receipts) (λ p. fed p 0 (new ∷ receipts)) ways (all_gone_on handled new receipts all) tied.tied;
   apart = tied.apart;
+  asked = (about, tied.asked);
 }
 
 -- a frame of the newest receipt went on to its way
-pub tied_after_passing : (handled peer : ℕ) (parcel : Parcel) (receipt : Receipt) (earlier : List Receipt) (new : List Way) → slice_get (parcels_to peer receipt) handled ≡ Some parcel → AllFed (with_fed (λ p. fed p handled (receipt ∷ earlier)) peer parcel) new → AreApart new → AreTied (record { ways = new; receipts = receipt ∷ earlier; handled = handled + 1 })
-tied_after_passing handled peer parcel receipt earlier new there tied apart = record {
+pub tied_after_passing : (handled peer : ℕ) (parcel : Parcel) (receipt : Receipt) (earlier : List Receipt) (new : List Way) → slice_get (parcels_to peer receipt) handled ≡ Some parcel → AllFed (with_fed (λ p. fed p handled (receipt ∷ earlier)) peer parcel) new → AreApart new → AreAbout new (receipt ∷ earlier) → AreTied (record { ways = new; receipts = receipt ∷ earlier; handled = handled + 1 })
+tied_after_passing handled peer parcel receipt earlier new there tied apart asked = record {
   tied = fed_alike (with_fed (λ p. fed p handled (receipt ∷ earlier)) peer parcel) (λ p. fed p (handled + 1) (receipt ∷ earlier)) new (handled_more peer handled parcel receipt earlier there) tied;
   apart = apart;
+  asked = asked;
 }
 
 -- a way put what was kept behind its shim
@@ -184,6 +206,7 @@ tied_after_putting handled receipts ways at old new there same keeps tied =
     record {
       tied = same_one f ways at new tied.tied (subst (λ (p : ℕ). IsTied (f p) new) (sym same) (keeps (f old.peer) mine));
       apart = apart_one ways at old new there same tied.apart;
+      asked = all_about_alike ways (slice_set ways at new) (leads_alike ways at old new there same) receipts tied.asked;
     }
 
 -- a seat with a newest receipt has this and those before

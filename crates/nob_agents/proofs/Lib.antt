@@ -1,3 +1,4 @@
 pub mod Fed
 pub mod Crossing
 pub mod Ended
+mod Pacing

@@ -1,4 +1,5 @@
 pub mod Taking
+pub mod Caring
 pub mod Ways
 pub mod Sending
 pub mod Pauses

@@ -1,7 +1,7 @@
 -- What an agent that sends has done: the ways to its peers, and what it asked of its space.
 -- In lists of receipts, and of what a way was fed, the newest stands FIRST.
-use Rattle.std.specs.Prelude.{◌≢◌, ◌≤◌, ℕ, ◌==◌, if◌then◌else◌, List, [], ◌∷◌, ◌++◌, length, map, take, reverse, Result, Ok}
-use Rattle.std.specs.List.{AllByRecursion}
+use Rattle.std.specs.Prelude.{◌≡◌, ◌≢◌, ◌≤◌, ℕ, Bool, true, false, ◌==◌, if◌then◌else◌, List, [], ◌∷◌, ◌++◌, length, map, take, reverse, Result, Ok}
+use Rattle.std.specs.List.{AllByRecursion, list_any}
 use Rattle.nob_frame.specs.declared.frame.Frame.{Frame}
 use Rattle.nob_model_types.specs.declared.event.Event.{Event}
 use Rattle.nob_model_types.specs.declared.event.Event.TheVariants as events
@@ -56,10 +56,30 @@ abbrev pub AreApart : List Way → Type 0
 AreApart [] = Unit {0}
 AreApart (way ∷ ways) = AllByRecursion (λ other. other.peer ≢ way.peer) ways × AreApart ways
 
--- what each way put and keeps behind its shim is the shim's output on the frames of the Transmits to its peer, save the newest one's last
+-- whether a way leads to a peer
+abbrev pub leads_to : (peer : ℕ) → List Way → Bool
+leads_to peer ways = list_any (λ way. way.peer == peer) ways
+
+-- whether an event is what an agent with these ways asks: to transmit to a peer to which one leads, to make a tick of the session with it, or to close that
+abbrev pub is_about : List Way → Event → Bool
+is_about ways (events.Transmit peer) = leads_to peer ways
+is_about ways (events.Tick peer) = leads_to peer ways
+is_about ways (events.Close peer) = leads_to peer ways
+is_about ways _ = false
+
+-- all that was asked is of this kind
+abbrev pub AreAbout : List Way → List Receipt → Type 0
+AreAbout ways receipts = AllByRecursion (λ receipt. is_about ways receipt.event ≡ true) receipts
+
+-- ways lead to the same peers
+abbrev pub LeadAlike : List Way → List Way → Type 0
+LeadAlike old new = (peer : ℕ) → leads_to peer new ≡ leads_to peer old
+
+-- what each way put and keeps behind its shim is the shim's output on the frames of the Transmits to its peer, save the newest one's last; and what was asked is about the ways' peers
 pub record AreTied (s : Sending) : Type 0 where
   pub tied : AllFed (λ peer. fed peer s.handled s.receipts) s.ways
   pub apart : AreApart s.ways
+  pub asked : AreAbout s.ways s.receipts
 
 -- what was fed, where this parcel was fed to the peer too
 abbrev pub with_fed : (ℕ → List Parcel) → ℕ → Parcel → ℕ → List Parcel

@@ -2,7 +2,8 @@
 
 ghost use Rattle.std.specs.Prelude.{◌≡◌, ◌≢◌, ◌≤◌, ◌<◌, ◌^◌, ◌==◌, ℕ, List, Some, length, slice_get, position, true, IfOk, OnErr, IfSome, MatchOption};
 ghost use Rattle.nob_link.specs.declared.parcel.Parcel.{Parcel as ParcelOf};
-ghost use Rattle.nob_agents.specs.Sending.{AllFed, AreApart, with_fed, parcels_to, frames_in, AllGoneOn};
+ghost use Rattle.nob_agents.specs.Sending.{AllFed, AreApart, with_fed, parcels_to, frames_in, AllGoneOn, LeadAlike};
+ghost use Rattle.nob_agents.specs.Sending as sending;
 
 use crate::parcels::PutParcel;
 use crate::way::Way;
@@ -65,6 +66,26 @@ fn place_of<P: PutParcel + Drop>(ways: &[Way<P>], peer: SpaceId) -> Option<usize
     ways.iter().position(|way| way.peer() == peer)
 }
 
+// Whether a way leads to a peer.
+fn leads_to<P: PutParcel + Drop>(ways: &[Way<P>], peer: SpaceId) -> bool
+    ensures { result ≡ sending.leads_to peer ways.now }
+{
+    ways.iter().any(|way| way.peer() == peer)
+}
+
+// Whether an event is what an agent with these ways asks: a Transmit to a peer to which one leads,
+// a tick of the session with it, or its close.
+pub(crate) fn is_about<P: PutParcel + Drop>(ways: &[Way<P>], event: &Event) -> bool
+    ensures { result ≡ sending.is_about ways.now event.now }
+{
+    match event {
+        Event::Transmit(peer) => leads_to(ways, *peer),
+        Event::Tick(peer) => leads_to(ways, *peer),
+        Event::Close(peer) => leads_to(ways, *peer),
+        _ => false,
+    }
+}
+
 // Has a parcel pass the shim of the way to a peer, if there is one and nothing is kept behind its
 // shim: whether it did. Only memory fails it.
 pub(crate) fn pass_on<P: PutParcel + Drop>(
@@ -75,6 +96,8 @@ pub(crate) fn pass_on<P: PutParcel + Drop>(
     ensures fed { (f : ℕ → List ParcelOf) → AreApart ways.old.items → AllFed f ways.old.items
         → IfOk result (λ passed. passed ≡ true
         → AllFed (with_fed f peer parcel) ways.new.items × AreApart ways.new.items) }
+    ensures leads { IfOk result (λ passed. passed ≡ true
+        → LeadAlike ways.old.items ways.new.items) }
     ensures kept { IfOk result (λ passed. passed ≢ true → ways.new.items ≡ ways.old.items) }
     ensures err { OnErr result (ways.new.items ≡ ways.old.items) }
 {

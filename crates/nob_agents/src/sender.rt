@@ -7,7 +7,7 @@ ghost use Rattle.nob_agents.specs.Sending.{AreApart, AreTied};
 
 use crate::calls::Calls;
 use crate::parcels::PutParcel;
-use crate::passing::{has_gone_on, kept_behind, next_of, pass_on};
+use crate::passing::{has_gone_on, is_about, kept_behind, next_of, pass_on};
 use crate::timing::Timing;
 use crate::turn::Turn;
 use crate::way::{Step, Way};
@@ -71,8 +71,8 @@ impl<P: PutParcel + Drop> Model for Sender<P> {
 impl<P: PutParcel + Drop> Sender<P> {
     /// The agent for these ways. What is out is transmitted again after `pause` turns, and after
     /// twice as many each time sixteen repeats had nothing new beside them, 32 times as many at
-    /// most; a tick is made after every `tick_every` such pauses, none where that is 0. The caller's
-    /// condition: the seat and the ways are unused, and no two ways lead to one peer.
+    /// most; a tick is made after every `tick_every` such pauses, none where that is 0. The
+    /// caller's condition: the seat and the ways are unused, and no two ways lead to one peer.
     pub fn new(seat: Seat, ways: Vec<Way<P>>, pause: u32, tick_every: u32) -> Sender<P>
         requires seat { seat ≡ [] }
         requires ways { AllByRecursion (IsTied []) ways.items }
@@ -126,7 +126,8 @@ impl<P: PutParcel + Drop> Sender<P> {
         Ok(true)
     }
 
-    // Asks the keeper, once all that the newest receipt has is on its way: whether it is.
+    // Asks the keeper for what is about the peer of a way, once all that the newest receipt has is
+    // on its way: whether it did.
     fn ask<R: Wait, C: Calls>(
         &mut self,
         rt: &R,
@@ -134,6 +135,9 @@ impl<P: PutParcel + Drop> Sender<P> {
         event: &Event,
     ) -> Result<bool, KeeperError> {
         if !has_gone_on(&self.seat, self.handled) {
+            return Ok(false);
+        }
+        if !is_about(self.ways.as_slice(), event) {
             return Ok(false);
         }
         keeper.call(rt, &mut self.seat, event, 0)?;
@@ -275,6 +279,8 @@ impl<P: PutParcel + Drop> Sender<P> {
 
     /// Its parts, which are tied: what each way put, and then what it keeps behind its shim, is the
     /// shim's output on the frames of the Transmits to its peer, save the last ones of the newest.
+    /// All that it asked is to transmit to a way's peer, a tick of the session with it, or its
+    /// close.
     pub fn end(self) -> (Seat, Vec<Way<P>>)
         ensures parts { (self.ways ≡ result.1.items) × (self.receipts ≡ result.0) }
         ensures tied { AreTied self }

@@ -177,8 +177,8 @@ impl<T: TakeParcel + Drop> Taker<T> {
         })
     }
 
-    /// Its parts, which are tied: what its end took is what arrived by its receipts, but for at most
-    /// one frame, and what it asked besides is about its peer.
+    /// Its parts, which are tied: what its end took is what arrived by its receipts, but for at
+    /// most one frame, and what it asked besides is about its peer.
     pub fn end(self) -> (Seat, T, Option<Asking>)
         ensures parts { self ≡ record {
           peer = self.peer;

@@ -1,7 +1,9 @@
 //! When an agent transmits.
 
-ghost use Rattle.std.specs.Prelude.{◌≡◌};
+ghost use Rattle.std.specs.Prelude.{◌≡◌, ◌-◌, Some, true, IfSome, position};
 ghost use Rattle.nob_agents.specs.Pauses as pausing;
+ghost use Rattle.nob_keeper.specs.Waking as waking;
+ghost use Rattle.nob_model_types.specs.declared.event.Event.TheVariants as events;
 
 use nob_ids::SpaceId;
 use nob_keeper::{Due, is_new};
@@ -52,6 +54,13 @@ fn is_time(pause: u32, turns: u32, repeats: u32, due: Due) -> bool
     }
 }
 
+// The place of the first space for which something is new.
+fn first_new(dues: &[Due; 32]) -> Option<usize>
+    ensures { result ≡ position waking.is_new dues.now }
+{
+    dues.iter().position(|due| is_new(*due))
+}
+
 impl Timing {
     // What is out is transmitted again after so many turns, and a tick is made after so many of
     // these pauses, none where that is 0.
@@ -68,40 +77,51 @@ impl Timing {
 
     // What is to be asked in a turn, if something is, where a Transmit to each space would give
     // this.
-    pub(crate) fn next(&mut self, dues: &[Due; 32]) -> Option<Event> {
+    #[tactic(auto, using(crate::proofs::Pacing::new_is_next, crate::proofs::Pacing::out_is_next))]
+    pub(crate) fn next(&mut self, dues: &[Due; 32]) -> Option<Event>
+        ensures { IfSome result (λ event. pausing.IsNext self.old.tick dues.now event) }
+    {
         if let Some(peer) = self.tick.take() {
             return Some(Event::Tick(peer));
         }
         if let Some(event) = self.next_new(dues) {
             return Some(event);
         }
-        for (place, due) in dues.iter().enumerate() {
-            if self.is_time(place, *due)
-                && let Some(peer) = SpaceId::new(place as u16 + 1)
-            {
-                return Some(self.transmit_again(peer, *due));
-            }
+        if let Some(peer) = self.first_out(dues) {
+            return Some(self.transmit_again(peer, dues[peer.place()]));
         }
         self.count_turn(dues);
         None
     }
 
     // What is new and to be asked, if something is. No turn is counted.
-    pub(crate) fn next_new(&mut self, dues: &[Due; 32]) -> Option<Event> {
+    pub(crate) fn next_new(&mut self, dues: &[Due; 32]) -> Option<Event>
+        ensures first { IfSome result (λ event. pausing.next_new dues.now ≡ Some event) }
+        ensures tick { self.new.tick ≡ self.old.tick }
+    {
+        let place = first_new(dues)?;
+        let peer = SpaceId::new(place as u16 + 1)?;
+        self.turns[place] = 0;
+        self.repeats[place] = 0;
+        Some(Event::Transmit(peer))
+    }
+
+    // The first space for which what isn't new has waited as long as it is to.
+    fn first_out(&self, dues: &[Due; 32]) -> Option<SpaceId>
+        ensures { IfSome result (λ peer. pausing.is_due_at dues.now (peer - 1) ≡ true) }
+    {
         for (place, due) in dues.iter().enumerate() {
-            if is_new(*due)
-                && let Some(peer) = SpaceId::new(place as u16 + 1)
-            {
-                self.turns[place] = 0;
-                self.repeats[place] = 0;
-                return Some(Event::Transmit(peer));
+            if self.is_time(place, *due) {
+                return SpaceId::new(place as u16 + 1);
             }
         }
         None
     }
 
     // Whether what isn't new has waited as long as it is to, at the place of a peer.
-    fn is_time(&self, place: usize, due: Due) -> bool {
+    fn is_time(&self, place: usize, due: Due) -> bool
+        ensures { result ≡ true → pausing.is_some due ≡ true }
+    {
         match (self.turns.get(place), self.repeats.get(place)) {
             (Some(turns), Some(repeats)) => is_time(self.pause, *turns, *repeats, due),
             _ => false,
@@ -109,7 +129,9 @@ impl Timing {
     }
 
     // Transmits to a peer what isn't new. A tick follows after every so many pauses.
-    fn transmit_again(&mut self, peer: SpaceId, due: Due) -> Event {
+    fn transmit_again(&mut self, peer: SpaceId, due: Due) -> Event
+        ensures { result ≡ events.Transmit peer }
+    {
         let place = peer.place();
         let pauses = pauses_after(self.repeats[place]);
         self.turns[place] = 0;
@@ -120,7 +142,8 @@ impl Timing {
         Event::Transmit(peer)
     }
 
-    // More pauses have passed: the session with this peer ticks where they are as many as a tick takes.
+    // More pauses have passed: the session with this peer ticks where they are as many as a tick
+    // takes.
     fn count_pauses(&mut self, peer: SpaceId, pauses: u32) {
         if self.tick_every == 0 {
             return;

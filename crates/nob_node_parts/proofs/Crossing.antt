@@ -5,8 +5,7 @@ use denote.Struct.Declared.{shape}
 use denote.Struct.Struct.{Struct}
 use Rattle.std.proofs.Crossing.{crosses, Vec-send}
 use Rattle.std.specs.contracts.sync.Condvar as Condvar
-use Rattle.nob_agents.proofs.Crossing.{taker_send, way_send, sender_send}
-use Rattle.nob_agents.specs.contracts.carer.Carer as Carer
+use Rattle.nob_agents.proofs.Crossing.{taker_send, way_send, sender_send, carer_send}
 use Rattle.nob_agents.specs.contracts.parcels.PutEndPutParcel.TheImpl.{ghosts}
 use Rattle.nob_agents.specs.contracts.taker.Taker as Taker
 use Rattle.nob_agents.specs.contracts.way.Way as Way
@@ -44,9 +43,6 @@ inbox_send =
     recorded_send (Struct (shape T)) T.D T.to T.to_one (struct_send (shape T)
     (search (taker_of_node_send, crosses, sendable) depth 60 fits 20000, tt))
 
-carer_field_send : IsSend (Carer.the_field).row
-carer_field_send = struct_send (shape Carer.the_type) (seat_send, tt)
-
 pub condvar_sync : IsSync (Condvar.the_field).row
 condvar_sync = search (crosses, sendable) depth 60 fits 20000
 
@@ -68,7 +64,7 @@ transmitting_sync =
     (search (outbox_field_send, crosses, sendable) depth 60 fits 20000, (search (crosses, sendable) depth 60 fits 20000, (search (crosses, sendable) depth 60 fits 20000, (search (crosses, sendable) depth 60 fits 20000, (search (crosses, sendable) depth 60 fits 20000, tt)))))
 
 pub collecting_sync : IsSync (Collecting.the_field).row
-collecting_sync = struct_sync (shape Collecting.the_type) (search (carer_field_send, crosses, sendable) depth 60 fits 20000, (search (crosses, sendable) depth 60 fits 20000, tt))
+collecting_sync = struct_sync (shape Collecting.the_type) (search (carer_send, crosses, sendable) depth 60 fits 20000, (search (crosses, sendable) depth 60 fits 20000, tt))
 
 pub inboxes_sync : IsSync (Inboxes.the_field).row
 inboxes_sync = struct_sync (shape Inboxes.the_type) (search (inbox_send, crosses, sendable) depth 60 fits 20000, (search (crosses, sendable) depth 60 fits 20000, (search (crosses, sendable) depth 60 fits 20000, tt)))

@@ -5,4 +5,4 @@ use Rattle.nob_agents.proofs.sender.Sender.new.Goals as goal
 
 pub invariant_of-result : goal.invariant_of-result
 invariant_of-result g c =
-    subst (λ (receipts : List Receipt). AreTied (record { ways = c.args.ways.items; receipts = receipts; handled = 0 })) (sym c.requires.seat) (record { tied = c.requires.ways; apart = c.requires.apart })
+    subst (λ (receipts : List Receipt). AreTied (record { ways = c.args.ways.items; receipts = receipts; handled = 0 })) (sym c.requires.seat) (record { tied = c.requires.ways; apart = c.requires.apart; asked = tt })
