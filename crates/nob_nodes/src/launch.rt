@@ -24,7 +24,9 @@ pub(crate) struct Launch {
 
 impl Launch {
     // The node of a space, one of so many, without links.
-    pub(crate) fn new(alloc: Global, space: SpaceId, spaces: u16, config: Config) -> Launch {
+    pub(crate) fn new(alloc: Global, space: SpaceId, spaces: u16, config: Config) -> Launch
+        ensures { result.config ≡ config }
+    {
         Launch {
             alloc,
             space,
@@ -35,7 +37,9 @@ impl Launch {
     }
 
     // Has ends of links to one peer more. Only memory fails it.
-    pub(crate) fn add(&mut self, ends: Ends) -> Option<()> {
+    pub(crate) fn add(&mut self, ends: Ends) -> Option<()>
+        ensures { self.new.config ≡ self.old.config }
+    {
         self.ends.push(ends).ok()
     }
 
@@ -47,7 +51,9 @@ impl Launch {
         R: Threads + Wait + Sync,
         G: Gate + Sync,
         A: Player<O> + Drop,
-    >(self, rt: &R, meeting: &Meeting, gate: &G, player: A) -> Played<O, A> {
+    >(self, rt: &R, meeting: &Meeting, gate: &G, player: A) -> Played<O, A>
+        ensures { result.config ≡ self.config }
+    {
         let Launch {
             alloc,
             space,
@@ -83,7 +89,9 @@ impl Launch {
         rt: &R,
         meeting: &Meeting,
         mut player: A,
-    ) -> Played<O, A> {
+    ) -> Played<O, A>
+        ensures { result.config ≡ self.config }
+    {
         let Launch {
             alloc,
             config,

@@ -33,7 +33,9 @@ impl Layout {
     /// Two workers a node, which keeps this of its entries; links of 64 parcels that lose nothing;
     /// no ticks.
     pub fn new(keep: Keep) -> Layout
-        ensures { result.keep ≡ keep }
+        ensures keep { result.keep ≡ keep }
+        ensures plain { (result.workers ≡ 2) × (result.tick_every ≡ 0) × (result.capacity ≡ 64)
+            × (result.loss ≡ 0) }
     {
         Layout {
             limits: Limits::default(),

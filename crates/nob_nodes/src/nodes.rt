@@ -2,6 +2,7 @@
 
 ghost use Rattle.std.specs.Prelude.{◌≡◌, [], IfSome};
 ghost use Rattle.nob_fault.specs.Shims.{opening};
+ghost use Rattle.nob_nodes.specs.Layouts.{AreMade, RunAlike};
 
 use crate::launch::Launch;
 use crate::layout::Layout;
@@ -20,14 +21,16 @@ pub struct Nodes {
 }
 
 impl Nodes {
-    /// As many nodes, of which no two are linked. `None` where memory is wanted, or a number of the
-    /// layout is out of its range.
+    /// As many nodes, of the spaces from 1 on, of which no two are linked: each runs as the layout
+    /// says. `None` where memory is wanted, or a number of the layout is out of its range.
+    #[tactic(auto, using(crate::proofs::Laid::laid_out_next))]
     pub fn new(alloc: Global, layout: Layout, count: u16) -> Option<Nodes>
-        ensures { IfSome result (λ nodes. nodes.layout ≡ layout) }
+        ensures layout { IfSome result (λ nodes. nodes.layout ≡ layout) }
+        ensures made { IfSome result (λ nodes. AreMade layout count nodes) }
     {
         let mut launches = Vec::with_capacity(alloc, usize::from(count)).ok()?;
-        for number in 1..=count {
-            let space = SpaceId::new(number)?;
+        for before in 0..count {
+            let space = SpaceId::new(before + 1)?;
             let config = layout.config(space, count)?;
             launches
                 .push(Launch::new(alloc, space, count, config))
@@ -42,7 +45,8 @@ impl Nodes {
 
     /// The same, with a link each way between each two of them.
     pub fn linked(alloc: Global, layout: Layout, count: u16) -> Option<Nodes>
-        ensures { IfSome result (λ nodes. nodes.layout ≡ layout) }
+        ensures layout { IfSome result (λ nodes. nodes.layout ≡ layout) }
+        ensures made { IfSome result (λ nodes. AreMade layout count nodes) }
     {
         let mut nodes = Nodes::new(alloc, layout, count)?;
         for second in 2..=count {
@@ -56,7 +60,8 @@ impl Nodes {
     /// A link each way between the nodes of two spaces. `None` where memory is wanted, or there is
     /// no such node.
     pub fn link(&mut self, first: SpaceId, second: SpaceId) -> Option<()>
-        ensures { self.new.layout ≡ self.old.layout }
+        ensures layout { self.new.layout ≡ self.old.layout }
+        ensures alike { RunAlike self.old self.new }
     {
         let (put_there, take_there) = self.made_link()?;
         let (put_back, take_back) = self.made_link()?;
@@ -68,7 +73,8 @@ impl Nodes {
     /// brings what comes from there: the other ends. `None` where memory is wanted, or there is no
     /// such node.
     pub fn open(&mut self, space: SpaceId, peer: SpaceId) -> Option<(PutEnd, TakeEnd)>
-        ensures { self.new.layout ≡ self.old.layout }
+        ensures layout { self.new.layout ≡ self.old.layout }
+        ensures alike { RunAlike self.old self.new }
     {
         let (put_there, take_there) = self.made_link()?;
         let (put_back, take_back) = self.made_link()?;
@@ -89,7 +95,9 @@ impl Nodes {
     }
 
     // The nodes, in the order of their spaces.
-    pub(crate) fn into_launches(self) -> Vec<Launch> {
+    pub(crate) fn into_launches(self) -> Vec<Launch>
+        ensures { result ≡ self.launches }
+    {
         let Nodes { launches, .. } = self;
         launches
     }
@@ -105,7 +113,8 @@ impl Nodes {
     fn add(&mut self, space: SpaceId, peer: SpaceId, put: PutEnd, take: TakeEnd) -> Option<()>
         requires put { put.put ≡ [] }
         requires take { take.taken ≡ [] }
-        ensures { self.new.layout ≡ self.old.layout }
+        ensures layout { self.new.layout ≡ self.old.layout }
+        ensures alike { RunAlike self.old self.new }
     {
         let shim = self.shim(space, peer)?;
         let launch = self.launches.get_mut(space.place())?;
