@@ -1,3 +1,4 @@
 pub mod Crossing
 mod Holdings
+mod Returned
 mod Shelved

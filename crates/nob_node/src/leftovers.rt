@@ -1,6 +1,7 @@
 //! What is left of a node's objects when its threads have ended.
 
 ghost use Rattle.std.specs.Prelude.{◌≡◌, ◌<◌, ◌++◌, [], vec_len, vec_capacity};
+ghost use Rattle.nob_dispatch_lanes.specs.Ends.{got_by};
 ghost use Rattle.nob_node.specs.Leaving as leaving;
 ghost use Rattle.nob_node_site.specs.Assigning.{with_return};
 
@@ -21,7 +22,11 @@ pub(crate) struct Rest<B: Object> {
 }
 
 // What is left of a desk. Nothing more is given to the workers.
-pub(crate) fn rest_of<B: Object>(desk: Desk<Kept<B>>) -> Rest<B> {
+pub(crate) fn rest_of<B: Object>(desk: Desk<Kept<B>>) -> Rest<B>
+    ensures seat { result.seat ≡ desk.dispatcher.receipts }
+    ensures shelf { result.shelf ≡ desk.dispatcher.shelf }
+    ensures returns { got_by result.returns.pass ≡ desk.back }
+{
     let (left, _unsent, _errands, returns) = desk.end();
     let Remaining { seat, shelf, .. } = left;
     Rest {
@@ -43,7 +48,9 @@ pub(crate) fn end_pool<B: Object, R: Wait>(
     hands: Vec<Hand<Kept<B>>>,
     rest: Option<Rest<B>>,
     seats: &mut Vec<Seat>,
-) -> Vec<Left<B>> {
+) -> Vec<Left<B>>
+    ensures { leaving.AreLeftIn rest result.items }
+{
     let Some(rest) = rest else {
         return Vec::new(alloc);
     };
@@ -66,7 +73,9 @@ fn end_hand<B: Object, R: Wait>(
     hand: Hand<Kept<B>>,
     seats: &mut Vec<Seat>,
     shelf: &mut Shelf<Kept<B>>,
-) {
+)
+    ensures { leaving.KeptCameBack hand.worker.running shelf.old shelf.new }
+{
     let (seat, errand, mut errands, _returns) = hand.end();
     keep(seats, seat);
     if let Some(errand) = errand {
@@ -80,7 +89,10 @@ fn take_unserved<B: Object, R: Wait>(
     rt: &R,
     errands: &mut LaneTake<Errand<Kept<B>>>,
     shelf: &mut Shelf<Kept<B>>,
-) {
+)
+    ensures { leaving.AllUnserved (got_by errands.old.pass) (got_by errands.new.pass) shelf.old
+        shelf.new }
+{
     for _ in rt.forever() {
         let Some(errand) = errands.try_get_as(rt) else {
             return;
@@ -119,7 +131,10 @@ fn take_returned<B: Object, R: Wait>(
     rt: &R,
     returns: &mut LaneTake<Return<Kept<B>>>,
     shelf: &mut Shelf<Kept<B>>,
-) {
+)
+    ensures { leaving.AllCameBack (got_by returns.old.pass) (got_by returns.new.pass) shelf.old
+        shelf.new }
+{
     for _ in rt.forever() {
         let Some(back) = returns.try_get_as(rt) else {
             return;

@@ -1,8 +1,9 @@
 //! How a node runs.
 
-ghost use Rattle.std.specs.Prelude.{◌≡◌, ◌↔◌, true, IfOk, MatchResult};
+ghost use Rattle.std.specs.Prelude.{◌≡◌, ◌↔◌, [], true, IfOk, MatchOption, MatchResult};
 ghost use Rattle.nob_keeper.specs.Accounts.{keeps_all};
 ghost use Rattle.nob_keeper.specs.Summaries as summaries;
+ghost use Rattle.nob_node.specs.Leaving as leaving;
 ghost use Rattle.nob_node.specs.Records as nodes;
 ghost use denote.Param.Send.{IsSend, IsSync};
 
@@ -65,7 +66,9 @@ pub fn run<B: Object + Send, R: Threads + Wait + Sync, G: Gate + Sync, A: App<B>
 }
 
 // What a node answers that has no memory for its parts.
-fn without_memory<B: Object>(alloc: Global) -> (NodeError, Vec<Left<B>>) {
+fn without_memory<B: Object>(alloc: Global) -> (NodeError, Vec<Left<B>>)
+    ensures { result.1.items ≡ [] }
+{
     (NodeError::Keeper(KeeperError::OutOfMemory), Vec::new(alloc))
 }
 
@@ -137,6 +140,10 @@ fn finish<B: Object, R: Wait>(
     ensures own { IfOk result (λ report. nodes.IsOwn config report.«record») }
     ensures kept { IfOk result (λ report. summaries.is_chain report.«record»
         ≡ keeps_all config.keep) }
+    ensures objects { MatchResult result
+        (λ report. leaving.AreLeftIn remains.rest report.objects.items)
+        (λ failed. MatchOption crew (failed.1.items ≡ [])
+        (λ _. leaving.AreLeftIn remains.rest failed.1.items)) }
 {
     let has_failed = site.failure.has_come();
     let Parts {
