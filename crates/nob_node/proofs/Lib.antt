@@ -1,4 +1,4 @@
 pub mod Crossing
 mod Holdings
-mod Returned
+mod Backs
 mod Shelved
