@@ -19,4 +19,4 @@ module _ {B : Type 0} where
   -- one that was kept came back, and then others
   pub some_kept : (running : Option Job) (old new : List (ℕ × Place (Kept B))) → KeptCameBack running old new → SomeCameBack old new
   some_kept None old new back = back
-  some_kept (Some job) old new back = some_more old (with_return (record { job = job.job; index = job.target; object = back.0 }) old) new (record { job = job.job; index = job.target; object = back.0 } ∷ [], refl) (back.1, back.2)
+  some_kept (Some job) old new back = some_more old (with_return (record { job = job.job; index = job.target; object = back.0 }) old) new (record { job = job.job; index = job.target; object = back.0 } ∷ [], refl) back.1

@@ -11,6 +11,11 @@ use Rattle.nob_node_site.specs.Left.{Left}
 use Rattle.nob_node_site.specs.Return.{Return}
 use Rattle.nob_node.specs.declared.leftovers.Rest.{Rest}
 
+-- what an end of a lane has got, once it got these too
+abbrev pub got_with : {X : Type 0} → List X → List X → List X
+got_with [] before = before
+got_with (newest ∷ earlier) before = got_with earlier before ++ newest ∷ []
+
 module _ {B : Type 0} where
   -- the application's object at a place, with its index, in front of others; none where the agent is there, or nothing is
   abbrev pub left_at : ℕ → Place (Kept B) → List (Left B) → List (Left B)
@@ -35,11 +40,6 @@ module _ {B : Type 0} where
   -- the object of an errand, on its way back
   abbrev pub back_of : Errand (Kept B) → Return (Kept B)
   back_of errand = record { job = errand.job.job; index = errand.job.target; object = errand.object }
-
-  -- what an end of a lane has got, once it got these too
-  abbrev pub got_with : {X : Type 0} → List X → List X → List X
-  got_with [] before = before
-  got_with (newest ∷ earlier) before = got_with earlier before ++ newest ∷ []
 
   -- objects were got from their lane, and each came back
   abbrev pub AllCameBack : (before after : List (Return (Kept B))) → (old new : List (ℕ × Place (Kept B))) → Type 0
