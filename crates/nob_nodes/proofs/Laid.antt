@@ -1,7 +1,6 @@
 -- How the nodes run that are to be run, where there is one more, or one has other links.
-use Rattle.std.proofs.Common.{◌≡◌, ℕ, ◌+◌, zero, suc, List, [], ◌∷◌, ◌++◌, length, Option, Some, None, refl, sym, ap, ◌∙◌, subst, arith}
-use Rattle.std.specs.Prelude.{slice_get, slice_set}
-use Rattle.std.proofs.lemmas.Option.{none-some}
+use Rattle.std.proofs.Common.{◌≡◌, ℕ, ◌+◌, zero, suc, List, [], ◌∷◌, ◌++◌, length, get_or, refl, sym, ap, ◌∙◌, subst, arith}
+use Rattle.std.specs.Prelude.{slice_set}
 use Rattle.nob_node.specs.Config.{Config}
 use Rattle.nob_nodes.specs.declared.launch.Launch.{Launch}
 use Rattle.nob_nodes.specs.declared.layout.Layout.{Layout}
@@ -16,12 +15,8 @@ laid_out_more layout first count number (l ∷ ls) launch all is one = (all.0, l
 pub laid_out_next : (layout : Layout) (first count number : ℕ) (launches new : List Launch) (launch : Launch) → AreLaidOut layout first count (configs_of launches) → number ≡ first + length launches → IsLaidOut layout number count launch.config → new ≡ launches ++ launch ∷ [] → AreLaidOut layout first count (configs_of new)
 laid_out_next layout first count number launches new launch all is one more = subst (λ (ls : List Launch). AreLaidOut layout first count (configs_of ls)) (sym more) (laid_out_more layout first count number launches launch all is one)
 
-abbrev content : {X : Type 0} → X → Option X → X
-content d None = d
-content d (Some x) = x
-
 -- one node has other links, and runs as it did
-pub same_configs : (launches : List Launch) (at : ℕ) (old new : Launch) → slice_get launches at ≡ Some old → new.config ≡ old.config → configs_of (slice_set launches at new) ≡ configs_of launches
-same_configs [] at old new there same = refl
-same_configs (l ∷ ls) zero old new there same = ap (λ (c : Config). c ∷ configs_of ls) (same ∙ ap (λ (x : Launch). x.config) (sym (ap (content l) there)))
-same_configs (l ∷ ls) (suc at) old new there same = ap (λ (cs : List Config). l.config ∷ cs) (same_configs ls at old new there same)
+pub same_configs : (launches : List Launch) (at : ℕ) (new old : Launch) → new.config ≡ (get_or launches at old).config → configs_of (slice_set launches at new) ≡ configs_of launches
+same_configs [] at new old same = refl
+same_configs (l ∷ ls) zero new old same = ap (λ (c : Config). c ∷ configs_of ls) same
+same_configs (l ∷ ls) (suc at) new old same = ap (λ (cs : List Config). l.config ∷ cs) (same_configs ls at new old same)
