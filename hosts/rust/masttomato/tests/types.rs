@@ -7,9 +7,9 @@ use masttomato::space::{
     Job, JoinError, NoSpace, NoText, PickleFault, Refusal, SpaceError, StreamError, Trace,
 };
 use masttomato::{
-    BadPeers, Builder, Call, CallError, Cancelled, Changes, Context, Counts, Fault, LocalNode, Named,
-    Node, NodeError, NotPassed, Pass, Peers, Reference, Remote, Report, Session, Shutdown, SpaceId,
-    Value, Why, interface,
+    BadPeers, Builder, Call, CallError, Cancelled, Changes, Context, Counts, Fault, LocalNode,
+    Named, Node, NodeError, NotPassed, Pass, Peers, Reference, Remote, Report, Session, Shutdown,
+    SpaceId, Value, Why, interface,
 };
 use std::error::Error;
 use std::fmt::Debug;

@@ -117,8 +117,7 @@ impl Driver {
         self.core.borrow_mut().engine.fill(now);
         self.write(now);
         self.leave(now);
-        let has_more =
-            self.core.borrow().engine.has_more(now) || self.net.borrow().has_more();
+        let has_more = self.core.borrow().engine.has_more(now) || self.net.borrow().has_more();
         has_more || self.shared.has_commands()
     }
 

@@ -1,5 +1,8 @@
 //! A node's connections: who is connected to, who connects, and what goes over them.
 
+#[cfg(test)]
+mod tests;
+
 use super::door::{Came, Door};
 use super::peers::Line;
 use super::seal::{Wire, flaw_in, is_for_later};
@@ -32,7 +35,7 @@ const LINGERS: Duration = Duration::from_millis(200);
 
 /// How many pieces of what a peer sent are read away at once.
 const PIECES: usize = 16;
-/// So many bytes are still heard of a peer to which nothing can be written any more: more than a system keeps of what came.
+/// So many bytes are still heard of a peer to which nothing can be written any more: more than systems keep of what came.
 const LAST_WORDS: usize = 64 * 1024 * 1024;
 
 struct Link {

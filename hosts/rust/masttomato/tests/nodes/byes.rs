@@ -26,6 +26,7 @@ fn a_bye_is_heard_though_nothing_can_be_written() {
     let maker = one.export_with::<dyn Trouble>(maker, Run::Inline).expect("room");
     one.bind("trouble", &maker).expect("a name");
     let mut stream = TcpStream::connect(one.address().expect("it listens")).expect("a node");
+    stream.set_nodelay(true).expect("a socket");
     stream.write_all(&plain::hello(2, 2, 9).to_bytes()).expect("a node");
     eventually("it is let in", || one.session(id(2)) == Session::Open);
     stream.write_all(&record(0, 1, &asks(1))).expect("a node");

@@ -42,7 +42,7 @@ fn want_of_memory_takes_time_and_nothing_else() {
     if masttomato::IS_PROVED {
         return eprintln!("skipped: the proved library can't be told to want memory");
     }
-    let often = |builder: masttomato::Builder| builder.give_up_after(Duration::from_secs(20));
+    let often = |builder: masttomato::Builder| builder.give_up_after(Duration::from_secs(10));
     let [one, two] = nodes(2, often).try_into().expect("two");
     let (counter, alive) = tally(&one);
     one.bind("counter", &counter).expect("a name");
@@ -52,20 +52,20 @@ fn want_of_memory_takes_time_and_nothing_else() {
     memories.iter().for_each(|memory| memory.is_wanted(4).wait_for(SOON).expect("it is told"));
     let counter: Remote<dyn Counter> = two.lookup(id(1), "counter").wait_for(SOON).expect("it");
     let shelf: Remote<dyn Shelf> = two.lookup(id(1), "shelf").wait_for(SOON).expect("a shelf");
-    for total in 1..=40 {
+    for total in 1..=10 {
         assert_eq!(counter.add(1).wait_for(SOON), Ok(total));
         let mine = exported(&two, &alive);
         assert_eq!(shelf.add_through(mine.clone(), 2).wait_for(SOON), Ok(Ok(2)));
         shelf.put(mine).wait_for(SOON).expect("an answer");
     }
-    let kept = (0..40).map(|_| shelf.take().wait_for(SOON).expect("an answer"));
+    let kept = (0..10).map(|_| shelf.take().wait_for(SOON).expect("an answer"));
     let kept: Vec<Remote<dyn Counter>> = kept.collect::<Option<_>>().expect("all that were put");
-    assert!(kept.iter().all(Remote::is_mine) && alive.load(SeqCst) == 41);
+    assert!(kept.iter().all(Remote::is_mine) && alive.load(SeqCst) == 11);
     drop(kept);
     one.unbind("counter");
     drop(counter);
     eventually("all but the first are dropped", || alive.load(SeqCst) == 1);
-    assert!(one.counts().wants > 100 && two.counts().wants > 100, "{:?}", one.counts());
+    assert!(one.counts().wants > 20 && two.counts().wants > 20, "{:?}", one.counts());
     memories.iter().for_each(|memory| memory.is_wanted(0).wait_for(SOON).expect("it is told"));
     assert!(one.shutdown(SOON).told);
 }

@@ -123,7 +123,9 @@ fn two_thousand_worlds_have_a_peer_that_misbehaves() {
     each_of(HOSTILE_RUNS, run);
     let (misbehaved, replies) = (misbehaved.into_inner(), replies.into_inner());
     let done = done.into_inner().expect("no panic");
-    println!("{HOSTILE_RUNS} worlds: {replies} replies of honest ones; {misbehaved} times, {done:?}");
+    println!(
+        "{HOSTILE_RUNS} worlds: {replies} replies of honest ones; {misbehaved} times, {done:?}"
+    );
     assert!(replies > HOSTILE_RUNS && misbehaved > HOSTILE_RUNS);
     assert!(MISDEEDS.iter().all(|misdeed| done.get(misdeed) > Some(&100)), "{done:?}");
 }

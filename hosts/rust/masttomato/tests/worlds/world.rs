@@ -5,11 +5,11 @@ mod hostile;
 use crate::common::checking::fault_among;
 use crate::deeds::{Deed, Kind, Script};
 use crate::net::Net;
+use hostile::Hostile;
 use masttomato::engine::{Answered, Engine, Life, Session, Settings, Ticket};
 use masttomato::space::{
     Job, Limits, Outcome, Reason, Reference, SpaceError, SpaceId, Status, Trace, Value,
 };
-use hostile::Hostile;
 use masttomato_sys::stand_in::want_memory;
 use std::collections::{BTreeSet, HashMap};
 use std::sync::{Arc, Mutex};
