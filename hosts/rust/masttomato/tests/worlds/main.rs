@@ -1,8 +1,8 @@
-//! Worlds of engines without a network: 10,000 scripts from seeds, in which connections break at any
+//! Worlds of engines without a network: 2,500 scripts from seeds, in which connections break at any
 //! byte and clocks jump. In each every call is answered once and carried out once at most, all objects are
 //! withdrawn once nobody holds them, and the traces of all nodes are a run. A script that fails is made
 //! shorter and printed; WORLD_SCRIPT names a file with one that is to be played again. In further worlds one
-//! node misbehaves: the others keep all that among each other.
+//! node misbehaves: the others keep all that among each other. MASTTOMATO_TIMES=4 plays four times as many of each.
 
 #[path = "../common/mod.rs"]
 mod common;
@@ -25,11 +25,18 @@ use std::sync::atomic::{AtomicU64, Ordering::Relaxed};
 use std::thread;
 use world::World;
 
-const RUNS: u64 = 10_000;
-const HOSTILE_RUNS: u64 = 2_000;
+const RUNS: u64 = 2_500;
+/// Of worlds of other kinds there are fewer.
+const FEWER: u64 = 500;
 const THREADS: u64 = 2;
 /// `nobj check`, a process each time, judges one of so many.
 const CHECKED: u64 = 25;
+
+// So many of a kind, or as many times that as is said.
+fn many(runs: u64) -> u64 {
+    let times = std::env::var("MASTTOMATO_TIMES").map(|text| text.parse().expect("a number"));
+    runs * times.unwrap_or(1)
+}
 
 fn play(script: &Script) -> World {
     let mut world = World::new(script);
@@ -61,7 +68,8 @@ fn each_of(seeds: u64, run: impl Fn(u64) + Sync) {
 }
 
 #[test]
-fn ten_thousand_worlds_keep_their_promises() {
+fn worlds_keep_their_promises() {
+    let runs = many(RUNS);
     let [closed, replies, objects, checked, opened] = [const { AtomicU64::new(0) }; 5];
     let run = |seed: u64| {
         let world = played(seed, &Script::of_seed(seed));
@@ -77,15 +85,15 @@ fn ten_thousand_worlds_keep_their_promises() {
             checked.fetch_add(1, Relaxed);
         }
     };
-    each_of(RUNS, run);
+    each_of(runs, run);
     let [closed, replies, objects, checked, opened] =
         [closed, replies, objects, checked, opened].map(AtomicU64::into_inner);
     println!(
-        "{RUNS} worlds: {replies} replies, {objects} objects, all withdrawn; sessions closed in {closed}, \
+        "{runs} worlds: {replies} replies, {objects} objects, all withdrawn; sessions closed in {closed}, \
          {opened} pairs opened theirs anew; nobj checked {checked}"
     );
-    assert!(replies > 5 * RUNS && closed > RUNS / 50 && closed < RUNS / 2);
-    assert!(opened > RUNS / 50, "{opened}");
+    assert!(replies > 5 * runs && closed > runs / 50 && closed < runs / 2);
+    assert!(opened > runs / 50, "{opened}");
 }
 
 // What `nobj check` says of a world in which one misbehaves: nothing; or where the first frame came that this one didn't
@@ -104,7 +112,8 @@ fn is_judged(said: &str, world: &World) -> bool {
 // The honest ones are answered, and each of their calls among each other is carried out once at most; what they had of the
 // one that misbehaves, and it of them, is given up once their sessions with it have closed, and no other session closes.
 #[test]
-fn two_thousand_worlds_have_a_peer_that_misbehaves() {
+fn worlds_in_which_one_misbehaves_keep_their_promises() {
+    let runs = many(FEWER);
     let [misbehaved, replies] = [const { AtomicU64::new(0) }; 2];
     let done = Mutex::new(HashMap::<Misdeed, u64>::new());
     let run = |seed: u64| {
@@ -120,47 +129,47 @@ fn two_thousand_worlds_have_a_peer_that_misbehaves() {
             assert!(is_judged(&said, &world), "seed {seed}: {said}");
         }
     };
-    each_of(HOSTILE_RUNS, run);
+    each_of(runs, run);
     let (misbehaved, replies) = (misbehaved.into_inner(), replies.into_inner());
     let done = done.into_inner().expect("no panic");
-    println!(
-        "{HOSTILE_RUNS} worlds: {replies} replies of honest ones; {misbehaved} times, {done:?}"
-    );
-    assert!(replies > HOSTILE_RUNS && misbehaved > HOSTILE_RUNS);
-    assert!(MISDEEDS.iter().all(|misdeed| done.get(misdeed) > Some(&100)), "{done:?}");
+    println!("{runs} worlds: {replies} replies of honest ones; {misbehaved} times, {done:?}");
+    assert!(replies > runs && misbehaved > runs);
+    assert!(MISDEEDS.iter().all(|misdeed| done.get(misdeed) > Some(&(runs / 5))), "{done:?}");
 }
 
 // What wanted memory is tried again, and nothing is lost. The library wants none where there is some, so this
 // is tried over the stand-in.
 #[test]
-fn a_thousand_worlds_want_memory() {
+fn worlds_want_memory() {
     if masttomato::IS_PROVED {
         return eprintln!("skipped: the proved library can't be told to want memory");
     }
-    let mut wants = 0;
-    for seed in 1..=1_000 {
-        let script = Script::of_seed(seed);
+    let (mut wants, runs) = (0, many(FEWER));
+    for seed in 1..=runs {
+        // In every fourth of them one misbehaves, too.
+        let is_hostile = seed.is_multiple_of(4);
+        let script = if is_hostile { Script::with_hostile(seed) } else { Script::of_seed(seed) };
         want_memory(2 + seed % 20, seed);
         let mut world = World::new(&script);
         world.play(&script);
         world.judge();
         wants += world.wants();
     }
-    assert!(wants > 10_000, "{wants}");
+    assert!(wants > 10 * runs, "{wants}");
 }
 
 // An engine that isn't recorded asks its space where one that is looks first what there is to do.
 #[test]
-fn a_thousand_worlds_are_not_recorded() {
-    let mut objects = 0;
-    for seed in 1..=1_000 {
+fn worlds_are_not_recorded() {
+    let (mut objects, runs) = (0, many(FEWER));
+    for seed in 1..=runs {
         let script = Script::of_seed(seed);
         let mut world = World::unrecorded(&script);
         world.play(&script);
         world.judge();
         objects += world.sums().2;
     }
-    assert!(objects > 1_000, "{objects}");
+    assert!(objects > runs, "{objects}");
 }
 
 #[test]
