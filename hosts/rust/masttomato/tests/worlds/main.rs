@@ -27,7 +27,7 @@ use world::World;
 
 const RUNS: u64 = 2_500;
 /// Of worlds of other kinds there are fewer.
-const FEWER: u64 = 500;
+const FEWER: u64 = 250;
 const THREADS: u64 = 2;
 /// `nobj check`, a process each time, judges one of so many.
 const CHECKED: u64 = 25;
