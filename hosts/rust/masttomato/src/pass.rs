@@ -14,7 +14,7 @@ const PIECE: usize = 8_192;
 /// # use masttomato::NotPassed;
 /// assert_eq!(NotPassed.to_string(), "the value isn't of the type that is wanted");
 /// ```
-#[derive(Clone, Copy, Debug, PartialEq, Eq)]
+#[derive(Clone, Copy, Debug, PartialEq, Eq, Hash)]
 pub struct NotPassed;
 
 impl fmt::Display for NotPassed {

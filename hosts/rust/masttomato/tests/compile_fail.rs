@@ -4,6 +4,7 @@
 use std::fs;
 use std::path::{Path, PathBuf};
 use std::process::Command;
+use std::thread;
 use std::time::SystemTime;
 
 const GOOD: &str = "
@@ -22,14 +23,7 @@ fn libraries() -> PathBuf {
 fn refused(library: &Path, source: &Path) -> Option<String> {
     let folder = library.parent().expect("a folder");
     let mut compiler = Command::new(std::env::var_os("RUSTC").unwrap_or("rustc".into()));
-    compiler.args([
-        "--edition",
-        "2024",
-        "--emit=metadata",
-        "--crate-name",
-        "refused",
-        "-Adead_code",
-    ]);
+    compiler.args(["--edition", "2024", "--emit=metadata", "-Adead_code"]);
     compiler.arg(format!("--out-dir={}", env!("CARGO_TARGET_TMPDIR")));
     compiler.arg(format!("-Ldependency={}", folder.display()));
     compiler.arg(format!("--extern=masttomato={}", library.display()));
@@ -57,27 +51,34 @@ fn library() -> PathBuf {
     first.cloned().unwrap_or_else(|| panic!("no library compiles a good program: {found:?}"))
 }
 
+// What is wrong with one of the programs that are to be refused: which of its sentences aren't said.
+fn missing(library: &Path, program: &Path) -> Vec<String> {
+    let source = fs::read_to_string(program).expect("a program");
+    let said = refused(library, program).unwrap_or_else(|| panic!("{program:?} is taken"));
+    let sentences: Vec<&str> =
+        source.lines().filter_map(|line| line.strip_prefix("//~ ")).collect();
+    assert!(!sentences.is_empty(), "{program:?} says no sentence");
+    let missing = sentences.iter().filter(|sentence| !said.contains(**sentence));
+    missing.map(|sentence| format!("{}: no {sentence:?} in\n{said}", program.display())).collect()
+}
+
 #[test]
 fn what_is_wrong_is_refused_with_a_sentence() {
     let library = library();
     let folder = Path::new(env!("CARGO_MANIFEST_DIR")).join("tests/refused");
     let entries = fs::read_dir(folder).expect("the programs");
-    let mut programs: Vec<PathBuf> =
-        entries.map(|entry| entry.expect("a program").path()).collect();
-    programs.sort();
+    let programs: Vec<PathBuf> = entries.map(|entry| entry.expect("a program").path()).collect();
     assert!(programs.len() >= 35);
-    let mut wrong = Vec::new();
-    for program in &programs {
-        let source = fs::read_to_string(program).expect("a program");
-        let said = refused(&library, program).unwrap_or_else(|| panic!("{program:?} is taken"));
-        let sentences: Vec<&str> =
-            source.lines().filter_map(|line| line.strip_prefix("//~ ")).collect();
-        assert!(!sentences.is_empty(), "{program:?} says no sentence");
-        for sentence in sentences {
-            if !said.contains(sentence) {
-                wrong.push(format!("{}: no {sentence:?} in\n{said}", program.display()));
-            }
-        }
-    }
+    // The compiler takes a processor for each of them.
+    let (first, second) = programs.split_at(programs.len() / 2);
+    let all = |programs: &[PathBuf]| -> Vec<String> {
+        programs.iter().flat_map(|program| missing(&library, program)).collect()
+    };
+    let wrong = thread::scope(|scope| {
+        let other = scope.spawn(|| all(second));
+        let mut wrong = all(first);
+        wrong.extend(other.join().expect("each is refused"));
+        wrong
+    });
     assert!(wrong.is_empty(), "{}", wrong.join("\n"));
 }

@@ -1,5 +1,5 @@
-//! A thousand scripts that are made as they are played: this crate and `nobj script` write the same
-//! of each, byte for byte, and `nobj check` accepts the traces of its spaces.
+//! Scripts that are made as they are played: this crate and `nobj script` write the same of each, byte for byte, and
+//! `nobj check` accepts the traces of its spaces. MASTTOMATO_TIMES=4 plays four times as many.
 
 mod common;
 
@@ -9,26 +9,28 @@ use masttomato::space::{Answer, CallNo, Event, JobNo, Limits, Outcome, Reference
 use std::sync::atomic::{AtomicUsize, Ordering::Relaxed};
 use std::thread;
 
-const SCRIPTS: u64 = 1_000;
+const SCRIPTS: u64 = 250;
 
 const THREADS: u64 = 4;
 
 static OPENED: AtomicUsize = AtomicUsize::new(0);
 
 #[test]
-fn a_thousand_scripts_give_the_same_text() {
+fn scripts_give_the_same_text() {
+    let times = std::env::var("MASTTOMATO_TIMES").map(|text| text.parse().expect("a number"));
+    let scripts = SCRIPTS * times.unwrap_or(1);
     let steps: usize = thread::scope(|scope| {
         let threads: Vec<_> = (1..=THREADS)
             .map(|first| {
-                let seeds = (first..=SCRIPTS).step_by(THREADS as usize);
+                let seeds = (first..=scripts).step_by(THREADS as usize);
                 scope.spawn(move || seeds.map(assert_same_text).sum::<usize>())
             })
             .collect();
         threads.into_iter().map(|thread| thread.join().expect("the same text")).sum()
     });
     let opened = OPENED.load(Relaxed);
-    println!("{SCRIPTS} scripts of {steps} steps; {opened} sessions were opened anew");
-    assert!(opened > SCRIPTS as usize / 10, "{opened}");
+    println!("{scripts} scripts of {steps} steps; {opened} sessions were opened anew");
+    assert!(opened > scripts as usize / 10, "{opened}");
 }
 
 // How many steps the script of a seed has, which gives the same text by `nobj script`.
@@ -47,7 +49,7 @@ fn assert_same_text(seed: u64) -> usize {
 
 #[test]
 fn a_bad_line_ends_a_script() {
-    for seed in 1..=100 {
+    for seed in 1..=50 {
         let mut maker = Maker::new(seed);
         let mut script = maker.script().into_bytes();
         // One byte is another: mostly that makes a line that is no step.

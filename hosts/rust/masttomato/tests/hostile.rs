@@ -367,6 +367,24 @@ fn one_that_guesses_an_index_and_goes() {
     scene.assert_serves();
 }
 
+// It passes a reference on to an object of the honest peer's that never was. The owner asks that one for it, who takes this
+// for the owner's own fault: their session closes. What it did isn't prevented; but their programs may open it anew.
+#[test]
+fn one_that_passes_on_what_never_was() {
+    let mut scene = Scene::new();
+    scene.assert_serves();
+    let served = scene.served;
+    let reference = [4, 0, 2, 0, 0, 0, 0, 0, 0, 0, 9];
+    scene.send(&sent(1, &call(1, &reference))).expect("a call");
+    scene.meet();
+    assert_eq!(scene.session(HONEST), Session::Closed(Reason::PeerClosed));
+    assert_eq!((scene.served, scene.session(HOSTILE)), (served, Session::Open));
+    scene.serve_all();
+    assert_eq!(scene.served, served, "its own call isn't carried out");
+    assert_eq!(scene.open_anew(), 2);
+    scene.assert_serves();
+}
+
 // It says that it has no use for an object that another space has: that one is listed for it as before.
 #[test]
 fn one_that_gives_back_what_another_has() {

@@ -217,7 +217,7 @@ fn a_life() {
     let (number, seed, folder) =
         (words[0].parse().expect("a number"), words[1], Path::new(words[2]));
     // Nothing takes so long: where something waits for ever, the test ends.
-    let limit = Duration::from_secs(number_of("MASTTOMATO_LIVES", 5)) + 4 * SOON;
+    let limit = Duration::from_secs(number_of("MASTTOMATO_LIVES", 3)) + 4 * SOON;
     thread::spawn(move || {
         thread::sleep(limit);
         std::process::abort();
@@ -387,7 +387,7 @@ impl Running {
 
 #[test]
 fn nodes_are_killed_and_go_on_under_their_numbers() {
-    let time = Duration::from_secs(number_of("MASTTOMATO_LIVES", 5));
+    let time = Duration::from_secs(number_of("MASTTOMATO_LIVES", 3));
     let seed = number_of("MASTTOMATO_SEED", 1);
     let (folder, mut numbers) = (Folder::new("lives"), Numbers::new(seed));
     let addresses: Vec<String> = (1..=SPACES).map(|_| format!("127.0.0.1:{}", port())).collect();

@@ -20,7 +20,8 @@ use std::sync::{Arc, Mutex};
 use std::time::Duration;
 
 const SPACES: usize = 3;
-const SEEDS: u64 = 10;
+/// So many worlds, or as many times that as MASTTOMATO_TIMES says.
+const SEEDS: u64 = 4;
 const STEPS: u64 = 700;
 /// So many of the worlds are judged by `nobj check`, too, which may be an unproved and slow one.
 const JUDGED: u64 = 2;
@@ -384,8 +385,10 @@ impl Drop for Scene {
 
 #[test]
 fn spaces_die_at_any_moment_and_come_back() {
+    let times = std::env::var("MASTTOMATO_TIMES").map(|text| text.parse().expect("a number"));
+    let seeds = SEEDS * times.unwrap_or(1);
     let (mut deaths, mut entries, mut chains) = (0, 0, 0);
-    for seed in 1..=SEEDS {
+    for seed in 1..=seeds {
         let mut scene = Scene::new(seed);
         (0..STEPS).for_each(|_| scene.step());
         scene.heal();
@@ -409,7 +412,7 @@ fn spaces_die_at_any_moment_and_come_back() {
             assert!(said.ends_with("\nverdict yes\n"), "seed {seed}: {said}");
         }
     }
-    assert!(deaths >= SEEDS && chains >= SEEDS as usize, "only {deaths} deaths, {chains} chains");
+    assert!(deaths >= seeds && chains >= seeds as usize, "only {deaths} deaths, {chains} chains");
     println!("{deaths} deaths, {entries} entries");
 }
 

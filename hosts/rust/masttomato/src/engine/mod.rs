@@ -269,8 +269,9 @@ impl std::error::Error for Misbehaved {}
 /// assert!(turn.jobs.is_empty() && turn.answers.is_empty() && turn.next.is_some());
 /// # Ok::<(), Box<dyn std::error::Error>>(())
 /// ```
-#[derive(Debug, Default)]
-#[must_use]
+#[derive(Clone, Debug, Default, PartialEq, Eq)]
+#[must_use = "jobs are to be finished, and references in answers given back"]
+#[non_exhaustive]
 pub struct Turn {
     /// Jobs that were claimed: each wants one `finish`.
     pub jobs: Vec<Job>,
@@ -311,7 +312,7 @@ impl Turn {
 /// # Ok(())
 /// # }
 /// ```
-#[derive(Clone, Copy, Debug, Default, PartialEq, Eq)]
+#[derive(Clone, Copy, Debug, Default, PartialEq, Eq, Hash)]
 #[non_exhaustive]
 pub struct Counts {
     /// Calls that were made, those of agents too.

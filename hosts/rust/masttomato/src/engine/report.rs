@@ -23,7 +23,7 @@ use std::time::Duration;
 /// # Ok(())
 /// # }
 /// ```
-#[derive(Clone, Debug, PartialEq, Eq)]
+#[derive(Clone, Debug, PartialEq, Eq, Hash)]
 #[non_exhaustive]
 pub struct Report {
     /// Whose it is.
@@ -59,7 +59,7 @@ pub struct Report {
 ///     }
 /// }
 /// ```
-#[derive(Clone, Copy, Debug, PartialEq, Eq)]
+#[derive(Clone, Copy, Debug, PartialEq, Eq, Hash)]
 #[non_exhaustive]
 pub struct Running {
     /// The index of its object.
@@ -94,7 +94,7 @@ impl fmt::Display for Running {
 /// while node.threads().iter().filter(|thread| thread.doing == Doing::Rests).count() < 3 {}
 /// # Ok::<(), Box<dyn std::error::Error>>(())
 /// ```
-#[derive(Clone, Copy, Debug, PartialEq, Eq)]
+#[derive(Clone, Copy, Debug, PartialEq, Eq, Hash)]
 #[non_exhaustive]
 pub enum Doing {
     /// It waits for something to do.
@@ -114,7 +114,7 @@ pub enum Doing {
 ///     Some(format!("{}, for {:?}", awaited.target?, awaited.time))
 /// }
 /// ```
-#[derive(Clone, Copy, Debug, PartialEq, Eq)]
+#[derive(Clone, Copy, Debug, PartialEq, Eq, Hash)]
 #[non_exhaustive]
 pub struct Awaited {
     /// The object that was called, once the node has taken the call.
@@ -142,7 +142,7 @@ impl Awaited {
 /// }
 /// # Ok::<(), Box<dyn std::error::Error>>(())
 /// ```
-#[derive(Clone, Debug, PartialEq, Eq)]
+#[derive(Clone, Debug, PartialEq, Eq, Hash)]
 #[non_exhaustive]
 pub struct ThreadReport {
     /// The thread's name.
@@ -205,7 +205,7 @@ impl fmt::Display for ThreadReport {
 /// # Ok(())
 /// # }
 /// ```
-#[derive(Clone, Copy, Debug, PartialEq, Eq)]
+#[derive(Clone, Copy, Debug, PartialEq, Eq, Hash)]
 #[non_exhaustive]
 pub struct TurnedAway {
     /// Where the connection came from.
@@ -236,7 +236,7 @@ impl fmt::Display for TurnedAway {
 /// assert_eq!((session.tally.session, session.tally.sent, session.unacknowledged), (1, 1, 1));
 /// # Ok::<(), Box<dyn std::error::Error>>(())
 /// ```
-#[derive(Clone, Copy, Debug, PartialEq, Eq)]
+#[derive(Clone, Copy, Debug, PartialEq, Eq, Hash)]
 #[non_exhaustive]
 pub struct SessionReport {
     /// With whom.

@@ -141,6 +141,7 @@ impl Files {
     /// # std::fs::remove_dir_all(&folder)?;
     /// # Ok::<(), Box<dyn std::error::Error>>(())
     /// ```
+    #[must_use = "these are other files, and the old ones are gone"]
     pub fn synced(self) -> Files {
         Files { syncs: true, ..self }
     }
@@ -183,6 +184,7 @@ impl Files {
     /// engine.record_chain(SegmentSize::default(), Box::new(files));
     /// # Ok::<(), Box<dyn std::error::Error>>(())
     /// ```
+    #[must_use = "these are other files, and the old ones are gone"]
     pub fn for_chain(self) -> Files {
         Files { ending: SEGMENTS, ..self }
     }

@@ -152,15 +152,8 @@ impl fmt::Display for CallError {
     }
 }
 
-impl std::error::Error for CallError {
-    fn source(&self) -> Option<&(dyn std::error::Error + 'static)> {
-        match self {
-            CallError::Fault(fault) => Some(fault),
-            CallError::Refused(_, why) => Some(why),
-            _ => None,
-        }
-    }
-}
+// Its sentence has what the fault, or the refusal, says: so that is no source of it.
+impl std::error::Error for CallError {}
 
 /// So many times it is looked for an answer between two looks at the time.
 const LOOKS_A_TIME: usize = 32;

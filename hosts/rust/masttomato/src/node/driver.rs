@@ -115,11 +115,9 @@ impl Driver {
             }
         }
         self.core.borrow_mut().engine.fill(now);
-        let was_heard = self.write(now);
+        self.write(now);
         self.leave(now);
-        let has_more = was_heard
-            || self.core.borrow().engine.has_more(now)
-            || self.net.borrow().has_more();
+        let has_more = self.core.borrow().engine.has_more(now) || self.net.borrow().has_more();
         has_more || self.shared.has_commands()
     }
 
@@ -144,13 +142,12 @@ impl Driver {
         }
     }
 
-    // Whether anything was heard meanwhile.
-    fn write(&self, now: Duration) -> bool {
+    fn write(&self, now: Duration) {
         let (mut net, mut core) = (self.net.borrow_mut(), self.core.borrow_mut());
         for peer in std::mem::take(&mut core.silent) {
             net.drop_link(peer, &mut core.engine, now);
         }
-        net.write(&mut core.engine, now)
+        net.write(&mut core.engine);
     }
 
     // Wakes and drops, with nothing borrowed.

@@ -139,15 +139,16 @@ impl fmt::Display for NodeError {
     }
 }
 
+// Each says what the error in it says: so that isn't said twice.
 impl std::error::Error for NodeError {
     fn source(&self) -> Option<&(dyn std::error::Error + 'static)> {
         match self {
             #[cfg(feature = "tls")]
-            NodeError::Identity(error) => Some(error),
-            NodeError::Space(error) => Some(error),
-            NodeError::Bounds(error) => Some(error),
-            NodeError::Birth(error) => Some(error),
-            NodeError::Io(error) => Some(error),
+            NodeError::Identity(error) => error.source(),
+            NodeError::Space(error) => error.source(),
+            NodeError::Bounds(error) => error.source(),
+            NodeError::Birth(error) => error.source(),
+            NodeError::Io(error) => error.source(),
             _ => None,
         }
     }

@@ -1,5 +1,8 @@
 //! A node's connections: who is connected to, who connects, and what goes over them.
 
+#[cfg(test)]
+mod tests;
+
 use super::door::{Came, Door};
 use super::peers::Line;
 use super::seal::{Wire, flaw_in, is_for_later};
@@ -32,12 +35,33 @@ const LINGERS: Duration = Duration::from_millis(200);
 
 /// How many pieces of what a peer sent are read away at once.
 const PIECES: usize = 16;
+/// So many bytes are still heard of a peer to which nothing can be written any more: more than systems keep of what came.
+const LAST_WORDS: usize = 64 * 1024 * 1024;
 
 struct Link {
     wire: Wire,
     is_readable: bool,
     is_writable: bool,
+    /// Where nothing can be written any more, how much of what came may still be heard.
+    last_words: Option<usize>,
     dial: Option<usize>,
+}
+
+impl Link {
+    // Nothing can be written any more. What came is heard all the same, since it may end with a bye.
+    fn breaks(&mut self) {
+        (self.is_readable, self.is_writable) = (true, false);
+        self.last_words.get_or_insert(LAST_WORDS);
+    }
+
+    // So much was read: whether more is to be.
+    fn heard(&mut self, count: usize) -> bool {
+        // The system says again when more comes behind a piece that isn't full.
+        self.is_readable = count == PIECE || self.wire.is_sealed() || self.last_words.is_some();
+        let Some(left) = &mut self.last_words else { return true };
+        *left = left.saturating_sub(count);
+        *left > 0
+    }
 }
 
 // Reads away what came: whether the other end has ended, too.
@@ -173,7 +197,7 @@ impl Net {
                 continue;
             };
             link.is_readable |= event.is_readable() || event.is_read_closed() || event.is_error();
-            link.is_writable |= event.is_writable();
+            link.is_writable |= event.is_writable() && link.last_words.is_none();
         }
     }
 
@@ -220,15 +244,17 @@ impl Net {
         match link.wire.read(&mut self.piece) {
             Ok(0) => self.drop_link(peer, engine, now),
             Ok(count) => {
-                // The system says again when more comes behind a piece that isn't full.
-                link.is_readable = count == PIECE || link.wire.is_sealed();
-                if let Err(how) = engine.bytes(peer, &self.piece[..count], now) {
+                let has_more = link.heard(count);
+                let said = engine.bytes(peer, &self.piece[..count], now);
+                if let Err(how) = said {
                     spans::misbehaved(self.hello.space, peer, how);
                     self.shunned.insert(peer, now + SHUNNED);
+                }
+                if said.is_err() || !has_more {
                     self.drop_link(peer, engine, now);
                 }
             }
-            Err(error) if error.kind() == ErrorKind::WouldBlock => {
+            Err(error) if error.kind() == ErrorKind::WouldBlock && link.last_words.is_none() => {
                 link.is_readable = false;
                 return false;
             }
@@ -238,9 +264,8 @@ impl Net {
         true
     }
 
-    /// Writes what is to be written: whether anything was heard of who doesn't read any more.
-    pub(crate) fn write(&mut self, engine: &mut Engine, now: Duration) -> bool {
-        let mut broken = Vec::new();
+    /// Writes what is to be written. A connection that takes nothing any more goes once all that came over it was heard.
+    pub(crate) fn write(&mut self, engine: &mut Engine) {
         for (peer, link) in &mut self.links {
             let out = engine.output(*peer);
             while !out.is_empty() && link.is_writable {
@@ -248,25 +273,10 @@ impl Net {
                     Ok(count) => out.advance(count),
                     Err(error) if error.kind() == ErrorKind::WouldBlock => link.is_writable = false,
                     Err(error) if error.kind() == ErrorKind::Interrupted => {}
-                    Err(_) => {
-                        broken.push(*peer);
-                        break;
-                    }
+                    Err(_) => link.breaks(),
                 }
             }
         }
-        let mut did = false;
-        for peer in broken {
-            // What had come before is heard all the same: it may say bye. A peer that goes on sending isn't heard for ever.
-            for _ in 0..PIECES {
-                if !self.links.contains_key(&peer) || !self.read_from(peer, engine, now) {
-                    break;
-                }
-                did = true;
-            }
-            self.drop_link(peer, engine, now);
-        }
-        did
     }
 
     /// A connection goes; whoever opened it opens it again later.
@@ -465,7 +475,8 @@ impl Net {
             dial.wait = FIRST_WAIT;
         }
         let Pending { wire, dial, .. } = pending;
-        let link = Link { wire, is_readable: true, is_writable: true, dial };
+        let (is_readable, is_writable) = (true, true);
+        let link = Link { wire, is_readable, is_writable, last_words: None, dial };
         self.links.insert(space, link);
         self.tokens.insert(token, space);
     }

@@ -16,12 +16,12 @@ use std::{fs, io};
 /// assert_eq!(peers.last(), SpaceId::new(9));
 /// # Ok::<(), masttomato::BadPeers>(())
 /// ```
-#[derive(Clone, Debug, Default)]
+#[derive(Clone, Debug, Default, PartialEq, Eq, Hash)]
 pub struct Peers {
     lines: Vec<Line>,
 }
 
-#[derive(Clone, Debug)]
+#[derive(Clone, Debug, PartialEq, Eq, Hash)]
 pub(crate) struct Line {
     pub(crate) first: SpaceId,
     pub(crate) last: SpaceId,
@@ -45,7 +45,7 @@ impl Line {
 /// let bad = "1 127.0.0.1:7001\n33 127.0.0.1:7002".parse::<Peers>().unwrap_err();
 /// assert!(bad.to_string().starts_with("line 2: a number from 1 to 32"));
 /// ```
-#[derive(Clone, Copy, Debug, PartialEq, Eq)]
+#[derive(Clone, Copy, Debug, PartialEq, Eq, Hash)]
 pub struct BadPeers {
     line: usize,
 }
@@ -135,6 +135,7 @@ impl Peers {
     /// assert_eq!(peers.last().map(SpaceId::get), Some(4));
     /// # Ok::<(), masttomato::space::NoSpace>(())
     /// ```
+    #[must_use = "these are other peers, and the old ones are gone"]
     pub fn with(mut self, space: SpaceId, address: impl fmt::Display) -> Peers {
         self.lines.push(Line { first: space, last: space, address: address.to_string() });
         self

@@ -118,8 +118,7 @@ impl fmt::Display for BadIdentity {
 impl std::error::Error for BadIdentity {
     fn source(&self) -> Option<&(dyn std::error::Error + 'static)> {
         match self {
-            BadIdentity::Io(error) => Some(error),
-            BadIdentity::Flaw(flaw) => Some(flaw),
+            BadIdentity::Io(error) => error.source(),
             _ => None,
         }
     }
@@ -478,10 +477,9 @@ impl Sealed {
                 return Err(io::Error::new(ErrorKind::InvalidData, flaw_of(&error)));
             }
         }
-        match self.flush(stream) {
-            Err(error) if !is_for_later(&error) => Err(error),
-            _ => Ok(count),
-        }
+        // What can't be written is said to who writes next; what came is heard all the same.
+        let _flushed = self.flush(stream);
+        Ok(count)
     }
 }
 

@@ -227,14 +227,7 @@ impl std::fmt::Display for StreamError {
     }
 }
 
-impl std::error::Error for StreamError {
-    fn source(&self) -> Option<&(dyn std::error::Error + 'static)> {
-        match self {
-            StreamError::Fault(fault) => Some(fault),
-            _ => None,
-        }
-    }
-}
+impl std::error::Error for StreamError {}
 
 /// Why bytes didn't arrive as a frame.
 ///
@@ -263,14 +256,7 @@ impl std::fmt::Display for ArriveError {
     }
 }
 
-impl std::error::Error for ArriveError {
-    fn source(&self) -> Option<&(dyn std::error::Error + 'static)> {
-        match self {
-            ArriveError::Fault(fault) => Some(fault),
-            ArriveError::Space(error) => Some(error),
-        }
-    }
-}
+impl std::error::Error for ArriveError {}
 
 impl From<FrameFault> for StreamError {
     fn from(fault: FrameFault) -> StreamError {

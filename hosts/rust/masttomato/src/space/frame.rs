@@ -439,6 +439,7 @@ impl<'a> IntoIterator for &'a Frames {
 /// # Ok::<(), SpaceError>(())
 /// ```
 #[derive(Clone, Debug)]
+#[must_use = "an iterator gives nothing until it is asked"]
 pub struct FramesIter<'a> {
     left: &'a [u8],
 }

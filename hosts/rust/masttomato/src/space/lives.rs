@@ -25,7 +25,7 @@ const MOST_CALLS: u64 = 4_096;
 /// let why = join_lives(one, Limits::default(), &lives).unwrap_err();
 /// assert_eq!(why.to_string(), "space 1, life 1, line 2: no entry");
 /// ```
-#[derive(Clone, Debug, PartialEq, Eq)]
+#[derive(Clone, Debug, PartialEq, Eq, Hash)]
 #[non_exhaustive]
 pub enum JoinError {
     /// A line is no entry, and not what a life begins with: whose, in which of its lives, and where.
@@ -57,14 +57,7 @@ impl fmt::Display for JoinError {
     }
 }
 
-impl Error for JoinError {
-    fn source(&self) -> Option<&(dyn Error + 'static)> {
-        match self {
-            JoinError::Space(error) => Some(error),
-            _ => None,
-        }
-    }
-}
+impl Error for JoinError {}
 
 /// Joins the lives of all spaces, from 1 on, into a trace or a chain each, for `nobj check`. A life is the lines that it recorded:
 /// first `life 2 indexes 4 calls 4 jobs 0 2:3`, which says what it began behind, and then its entries, with seals between them where it

@@ -9,6 +9,7 @@ use std::str::FromStr;
 /// use masttomato::SpaceId;
 ///
 /// assert_eq!("7".parse::<SpaceId>()?.get(), 7);
+/// assert_eq!(u16::from(SpaceId::try_from(7)?), 7);
 /// assert_eq!(SpaceId::try_from(33).unwrap_err().to_string(), "a space has a number from 1 to 32");
 /// # Ok::<(), masttomato::space::NoSpace>(())
 /// ```
@@ -104,6 +105,12 @@ impl TryFrom<u16> for SpaceId {
     }
 }
 
+impl From<SpaceId> for u16 {
+    fn from(space: SpaceId) -> u16 {
+        space.0
+    }
+}
+
 impl FromStr for SpaceId {
     type Err = NoSpace;
 
@@ -126,6 +133,7 @@ impl fmt::Display for SpaceId {
 ///
 /// let reference = Reference { owner: SpaceId::try_from(3)?, index: 14 };
 /// assert_eq!((reference.to_string(), reference.is_counted()), ("3.14".to_string(), true));
+/// assert_eq!("3.14".parse(), Ok(reference));
 /// assert!(!reference.owner.agent().is_counted());
 /// # Ok::<(), masttomato::space::NoSpace>(())
 /// ```
@@ -204,10 +212,16 @@ macro_rules! numbers {
             ///
             /// ```
             /// # use masttomato::space::*;
-            /// assert_eq!(CallNo::new(7).get(), 7);
+            /// assert_eq!((CallNo::new(7).get(), u64::from(CallNo::new(7))), (7, 7));
             /// ```
             pub const fn get(self) -> u64 {
                 self.0
+            }
+        }
+
+        impl From<$name> for u64 {
+            fn from(number: $name) -> u64 {
+                number.0
             }
         }
 

@@ -35,6 +35,14 @@ impl FromStr for Value {
     }
 }
 
+impl FromStr for Reference {
+    type Err = NoText;
+
+    fn from_str(text: &str) -> Result<Reference, NoText> {
+        reference_of(text).ok_or(NoText)
+    }
+}
+
 impl FromStr for Event {
     type Err = NoText;
 

@@ -207,11 +207,4 @@ pub(super) fn other_version(f: &mut fmt::Formatter<'_>, version: u32) -> fmt::Re
     )
 }
 
-impl Error for SpaceError {
-    fn source(&self) -> Option<&(dyn Error + 'static)> {
-        match self {
-            SpaceError::Refused(refusal) => Some(refusal),
-            _ => None,
-        }
-    }
-}
+impl Error for SpaceError {}

@@ -6,6 +6,11 @@ use std::collections::HashMap;
 
 /// What is wrong with the traces and chains, which each begin with their first lines.
 pub fn fault_of(traces: &[String]) -> Option<String> {
+    fault_among(traces, None)
+}
+
+/// The same where frames of a space that misbehaves may have come from nobody.
+pub fn fault_among(traces: &[String], hostile: Option<SpaceId>) -> Option<String> {
     let mut given: HashMap<&str, (u64, usize)> = HashMap::new();
     for (place, trace) in traces.iter().enumerate() {
         for (stamp, event, result) in entries(trace) {
@@ -20,6 +25,9 @@ pub fn fault_of(traces: &[String]) -> Option<String> {
     for (place, trace) in traces.iter().enumerate() {
         for (stamp, event, _) in entries(trace) {
             let Some(frame) = event.strip_prefix("arrive ") else { continue };
+            if hostile.is_some_and(|hostile| is_of(frame, hostile)) {
+                continue;
+            }
             match given.get(frame) {
                 None => return Some(format!("{}: {stamp} came from nobody", place + 1)),
                 Some(first) if *first >= (stamp, place) => {
@@ -30,6 +38,11 @@ pub fn fault_of(traces: &[String]) -> Option<String> {
         }
     }
     traces.iter().find_map(|trace| replay_fault(trace))
+}
+
+/// Whether a frame, as it stands in a trace, says that it is a space's.
+pub fn is_of(frame: &str, space: SpaceId) -> bool {
+    frame.get(8..12) == Some(&format!("{:04x}", space.get())[..])
 }
 
 /// The traces and chains that stand one after the other in a text.

@@ -87,6 +87,30 @@ impl Scene {
         panic!("the honest peer isn't answered");
     }
 
+    /// What the owner and the honest peer have for each other comes to them, some times.
+    pub fn meet(&mut self) {
+        for _ in 0..4 {
+            self.now += Duration::from_millis(3);
+            let _turns = (self.owner.turn(self.now), self.honest.turn(self.now));
+            let out = self.honest.output(id(HERE));
+            self.owner.bytes(id(HONEST), out.left(), self.now).expect("honest bytes");
+            out.advance(usize::MAX);
+            let out = self.owner.output(id(HONEST));
+            self.honest.bytes(id(HERE), out.left(), self.now).expect("honest bytes");
+            out.advance(usize::MAX);
+        }
+    }
+
+    /// Both the owner and the honest peer open their session anew: its number, which is one for both.
+    pub fn open_anew(&mut self) -> u32 {
+        let numbers = (
+            self.owner.open(id(HONEST), self.now).expect("nothing is held"),
+            self.honest.open(id(HERE), self.now).expect("nothing is held"),
+        );
+        assert_eq!(numbers.0, numbers.1);
+        numbers.0
+    }
+
     pub fn session(&self, number: u16) -> Session {
         self.owner.session(id(number))
     }

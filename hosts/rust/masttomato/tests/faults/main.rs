@@ -307,10 +307,31 @@ impl Drop for Folder {
     }
 }
 
+// One world from a seed, and whether what happened in it is a run.
+fn stands(seed: u64, lasts: Duration) -> Sums {
+    let folder = Folder::new(seed);
+    let sums = world(seed, lasts, &folder.0);
+    let judged = again("a_judge", JUDGE, &folder.0.display().to_string()).status();
+    assert!(judged.expect("a process").success(), "seed {seed}: {}", folder.0.display());
+    sums
+}
+
 #[test]
 fn processes_and_connections_fail_and_nodes_stand() {
-    let time = Duration::from_secs(number_of("MASTTOMATO_FAULTS", 6));
     let first = number_of("MASTTOMATO_SEED", 1);
+    match std::env::var_os("MASTTOMATO_FAULTS") {
+        Some(_) => stand_for(Duration::from_secs(number_of("MASTTOMATO_FAULTS", 0)), first),
+        // One that may be sealed, and one that isn't, beside each other.
+        None => thread::scope(|scope| {
+            for seed in [first, first + 1] {
+                scope.spawn(move || println!("seed {seed}: {:?}", stands(seed, LEAST)));
+            }
+        }),
+    }
+}
+
+// For so long one world stands after the other.
+fn stand_for(time: Duration, first: u64) {
     let (since, mut memories) = (Instant::now(), Vec::new());
     for seed in first.. {
         // At least one that may be sealed, and one that isn't.
@@ -318,11 +339,8 @@ fn processes_and_connections_fail_and_nodes_stand() {
         if left.is_zero() && memories.len() > 1 {
             break;
         }
-        let folder = Folder::new(seed);
         let lasts = left.clamp(time.min(LEAST), LONGEST).min(time / 2);
-        let sums = world(seed, lasts, &folder.0);
-        let judged = again("a_judge", JUDGE, &folder.0.display().to_string()).status();
-        assert!(judged.expect("a process").success(), "seed {seed}: {}", folder.0.display());
+        let sums = stands(seed, lasts);
         memories.push(memory());
         println!("{:>5} s, seed {seed}: {sums:?}, {} kB", since.elapsed().as_secs(), memory());
     }

@@ -1,12 +1,16 @@
 //! Nodes over TCP on 127.0.0.1: objects, references, calls, and all that may happen to them.
 
+mod byes;
 #[path = "../common/mod.rs"]
 mod common;
 mod later;
 mod plain;
 mod proxy;
+#[path = "../common/scene.rs"]
+mod scene;
 mod things;
 mod threads;
+mod wants;
 
 use common::checking::fault_of;
 use common::nobj;

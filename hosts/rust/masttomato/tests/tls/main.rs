@@ -4,21 +4,25 @@
 #[path = "../nodes/proxy.rs"]
 #[allow(dead_code)]
 mod proxy;
+#[path = "../common/scene.rs"]
+mod scene;
 mod strangers;
 
 use masttomato::engine::{Flaw, Hello, Life, WINDOW, World};
 use masttomato::{
-    BadIdentity, Builder, CallError, Context, Identity, Node, NodeError, Peers, Remote, Session,
-    SpaceId, Why, interface,
+    BadIdentity, Builder, CallError, Context, Identity, Node, NodeError, Peers, Reason, Remote,
+    Run, Session, SpaceId, Why, interface,
 };
 use proxy::Proxy;
+use scene::{call, frame, record};
 use std::io::{ErrorKind, Read, Write};
 use std::net::{SocketAddr, TcpStream};
 use std::path::{Path, PathBuf};
 use std::process::Command;
+use std::sync::mpsc::{Receiver, Sender, channel};
 use std::sync::{Arc, Mutex, OnceLock};
 use std::time::{Duration, Instant};
-use strangers::{Shown, between, first_words, knock, pose, shown};
+use strangers::{Shown, Talks, between, first_words, knock, pose, shown};
 
 /// An object of tests.
 #[interface]
@@ -304,6 +308,41 @@ fn a_certificate_may_name_a_range() {
     let found: Remote<dyn Bell> = seven.lookup(id(5), "bell").wait_for(MINUTE).expect("a bell");
     assert_rings(&found);
     assert_rings(&bell(&seven));
+}
+
+/// Says that it was rung, and answers when it is told to.
+struct Stuck(Sender<()>, Receiver<()>);
+
+impl Bell for Stuck {
+    fn ring(&mut self, sound: Vec<u8>) -> Vec<u8> {
+        let _told = (self.0.send(()), self.1.recv());
+        sound
+    }
+}
+
+// A member calls, says bye and is gone while the owner's thread carries its call out. It hasn't read the owner's hello: so
+// its end is a reset, and nothing can be written to it any more. What it said before is heard all the same.
+#[test]
+fn a_bye_is_heard_though_nothing_can_be_written() {
+    let Some(all) = certificates() else { return };
+    let (owner, address) = owner(all);
+    let ((rung, is_rung), (go_on, goes_on)) = (channel(), channel());
+    let stuck = owner.export_with::<dyn Bell>(Box::new(Stuck(rung, goes_on)), Run::Inline);
+    owner.bind("stuck", &stuck.expect("room")).expect("a name");
+    let mut member = Talks::to(address, &shown(all, "space-2"));
+    member.say(&hello(2, "shop", 77).to_bytes());
+    eventually("it is let in", || owner.session(id(2)) == Session::Open);
+    // It asks to be listed for the owner's second object, and calls that.
+    let mut item = call(1, &[2, 0, 0, 0, 1, 7]);
+    item[16] = 2;
+    let dirty = [4, 0, 0, 0, 0, 0, 0, 0, 2];
+    member.say(&record(0, 1, &[frame(2, 1, 1, &dirty), frame(2, 1, 2, &item)].concat()));
+    is_rung.recv_timeout(MINUTE).expect("its call runs");
+    member.say(&record(1, 0, &[]).repeat(1_000));
+    member.say(&record(3, 0, &[]));
+    drop(member);
+    go_on.send(()).expect("it waits");
+    eventually("it is heard", || owner.session(id(2)) == Session::Closed(Reason::PeerClosed));
 }
 
 // ---- strangers --------------------------------------------------------------------------------------

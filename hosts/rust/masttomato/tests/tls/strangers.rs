@@ -84,6 +84,22 @@ pub fn knock(address: SocketAddr, shown: Option<&Shown>, said: &[u8]) -> Result<
     Ok(answer)
 }
 
+/// Who connects, shows this, and says something now and then, but reads nothing behind the handshake.
+pub struct Talks(ClientConnection, TcpStream);
+
+impl Talks {
+    pub fn to(address: SocketAddr, shown: &Shown) -> Talks {
+        let stream = TcpStream::connect(address).expect("somebody listens");
+        // What it says leaves at once, and so before it goes.
+        stream.set_nodelay(true).expect("a socket");
+        Talks(connection_of(Some(shown)), stream)
+    }
+
+    pub fn say(&mut self, bytes: &[u8]) {
+        Stream::new(&mut self.0, &mut self.1).write_all(bytes).expect("it is heard");
+    }
+}
+
 /// Somebody who listens and takes one connection after the other, until this is dropped.
 pub struct Listens {
     pub address: SocketAddr,

@@ -28,9 +28,12 @@ pub enum Kind {
     Open,
     /// A node's clock goes on: a little, or by hours.
     Pass,
+    /// The node that misbehaves, where there is one, does something that no honest one does.
+    Misbehave,
 }
 
-const KINDS: [(Kind, &str, u64); 11] = [
+// How often each is, among so many; the last one only where a node misbehaves.
+const KINDS: [(Kind, &str, u64); 12] = [
     (Kind::Export, "export", 4),
     (Kind::Call, "call", 14),
     (Kind::Drop, "drop", 8),
@@ -42,6 +45,7 @@ const KINDS: [(Kind, &str, u64); 11] = [
     (Kind::Connect, "connect", 5),
     (Kind::Open, "open", 4),
     (Kind::Pass, "pass", 6),
+    (Kind::Misbehave, "misbehave", 16),
 ];
 
 /// A deed.
@@ -61,17 +65,19 @@ impl fmt::Display for Deed {
     }
 }
 
-/// A script: how many nodes there are, how soon they give up in seconds, and what is done.
+/// A script: how many nodes there are, how soon they give up in seconds, whether the last one misbehaves, and what is done.
 #[derive(Clone, Debug, PartialEq, Eq)]
 pub struct Script {
     pub nodes: u16,
     pub give_up: u64,
+    pub is_hostile: bool,
     pub deeds: Vec<Deed>,
 }
 
 impl fmt::Display for Script {
     fn fmt(&self, f: &mut fmt::Formatter<'_>) -> fmt::Result {
-        writeln!(f, "nodes {} give up {}", self.nodes, self.give_up)?;
+        let hostile = if self.is_hostile { " hostile" } else { "" };
+        writeln!(f, "nodes {} give up {}{hostile}", self.nodes, self.give_up)?;
         self.deeds.iter().try_for_each(|deed| writeln!(f, "{deed}"))
     }
 }
@@ -83,15 +89,29 @@ impl Script {
         let nodes = 2 + numbers.below(3) as u16;
         let give_up = if numbers.below(3) == 0 { 2 } else { 600 };
         let count = 40 + numbers.below(120);
-        let deeds = (0..count).map(|_| numbers.deed()).collect();
-        Script { nodes, give_up, deeds }
+        let deeds = (0..count).map(|_| numbers.deed(false)).collect();
+        Script { nodes, give_up, is_hostile: false, deeds }
+    }
+
+    /// The script of a seed in which the last of three or four nodes misbehaves.
+    pub fn with_hostile(seed: u64) -> Script {
+        let mut numbers = Numbers::new(seed);
+        let nodes = 3 + numbers.below(2) as u16;
+        let give_up = if numbers.below(3) == 0 { 2 } else { 600 };
+        let count = 40 + numbers.below(120);
+        let deeds = (0..count).map(|_| numbers.deed(true)).collect();
+        Script { nodes, give_up, is_hostile: true, deeds }
     }
 
     /// The script that a text spells.
     pub fn read(text: &str) -> Option<Script> {
         let mut lines = text.lines();
         let words: Vec<&str> = lines.next()?.split(' ').collect();
-        let ["nodes", nodes, "give", "up", give_up] = words[..] else { return None };
+        let (nodes, give_up, is_hostile) = match words[..] {
+            ["nodes", nodes, "give", "up", give_up] => (nodes, give_up, false),
+            ["nodes", nodes, "give", "up", give_up, "hostile"] => (nodes, give_up, true),
+            _ => return None,
+        };
         let deeds = lines.map(|line| {
             let words: Vec<&str> = line.split(' ').collect();
             let [name, node, with, how] = words[..] else { return None };
@@ -100,7 +120,7 @@ impl Script {
             Some(Deed { kind: *kind, node: number(node)?, with: number(with)?, how: number(how)? })
         });
         let (nodes, give_up) = (nodes.parse().ok()?, give_up.parse().ok()?);
-        Some(Script { nodes, give_up, deeds: deeds.collect::<Option<_>>()? })
+        Some(Script { nodes, give_up, is_hostile, deeds: deeds.collect::<Option<_>>()? })
     }
 
     /// A shorter script that fails too, from which no deed can be left out.
@@ -141,10 +161,11 @@ impl Numbers {
         (self.0 >> 11) % bound
     }
 
-    fn deed(&mut self) -> Deed {
-        let total: u64 = KINDS.iter().map(|(.., weight)| weight).sum();
+    fn deed(&mut self, is_hostile: bool) -> Deed {
+        let kinds = &KINDS[..KINDS.len() - usize::from(!is_hostile)];
+        let total: u64 = kinds.iter().map(|(.., weight)| weight).sum();
         let mut left = self.below(total);
-        let kind = KINDS.iter().find(|(.., weight)| {
+        let kind = kinds.iter().find(|(.., weight)| {
             let is_it = left < *weight;
             left = left.wrapping_sub(*weight);
             is_it

@@ -57,7 +57,9 @@ impl Net {
         }
     }
 
-    pub fn is_quiet(&self) -> bool {
-        self.pipes.values().all(|pipe| pipe.bytes.is_empty())
+    /// Whether nothing is on its way between the first so many nodes.
+    pub fn is_quiet(&self, count: usize) -> bool {
+        let mut between = self.pipes.iter().filter(|((one, other), _)| *one.max(other) < count);
+        between.all(|(_, pipe)| pipe.bytes.is_empty())
     }
 }

@@ -1,11 +1,14 @@
 //! A world: engines in one thread, with a network and clocks that are made up.
 
-use crate::common::checking::fault_of;
+mod hostile;
+
+use crate::common::checking::fault_among;
 use crate::deeds::{Deed, Kind, Script};
 use crate::net::Net;
+use hostile::Hostile;
 use masttomato::engine::{Answered, Engine, Life, Session, Settings, Ticket};
 use masttomato::space::{
-    Job, Limits, Outcome, Reference, SpaceError, SpaceId, Status, Trace, Value,
+    Job, Limits, Outcome, Reason, Reference, SpaceError, SpaceId, Status, Trace, Value,
 };
 use masttomato_sys::stand_in::want_memory;
 use std::collections::{BTreeSet, HashMap};
@@ -30,6 +33,25 @@ struct Fate {
     answers: u32,
     replies: u32,
     is_abandoned: bool,
+    // Whether it is made by the one that misbehaves, or to it.
+    is_by_hostile: bool,
+    is_to_hostile: bool,
+}
+
+impl Fate {
+    fn is_settled(&self) -> bool {
+        self.is_abandoned || self.answers > 0 || self.is_by_hostile
+    }
+
+    // Who misbehaves is promised nothing, and what it answers may be anything: but each call is answered once.
+    fn judge(&self) -> bool {
+        let has_run = self.ran <= 1 && self.replies <= self.ran;
+        let is_answered = match self.is_abandoned {
+            true => self.answers == 0,
+            false => self.answers == 1,
+        };
+        self.is_by_hostile || is_answered && (has_run || self.is_to_hostile)
+    }
 }
 
 pub struct World {
@@ -41,6 +63,7 @@ pub struct World {
     opened: BTreeSet<(usize, usize)>,
     spoils: bool,
     is_recorded: bool,
+    hostile: Option<Hostile>,
 }
 
 // A new object. Where memory is wanted, it is asked for again.
@@ -87,7 +110,9 @@ impl World {
         };
         let nodes = (0..count).map(node).collect();
         let (net, calls, opened) = (Net::default(), HashMap::new(), BTreeSet::new());
-        let mut world = World { nodes, net, calls, made: 0, opened, spoils: false, is_recorded };
+        let hostile = script.is_hostile.then(|| Hostile::new(count - 1));
+        let (made, spoils) = (0, false);
+        let mut world = World { nodes, net, calls, made, opened, spoils, is_recorded, hostile };
         for one in 0..count {
             (0..one).for_each(|other| world.connect(one, other));
         }
@@ -123,6 +148,7 @@ impl World {
             Kind::Connect => self.connect(one, other),
             Kind::Open => self.open(one, other, how % 3 > 0),
             Kind::Pass => self.pass(one, how),
+            Kind::Misbehave => self.misbehave(with, how),
         }
     }
 
@@ -144,7 +170,10 @@ impl World {
         let passed = node.hands.iter().cycle().skip(how).take(how % 4).copied();
         let list = [Value::Int(ticket as i64)].into_iter().chain(passed.map(Value::Ref));
         let value = Value::List(list.take(1 + node.hands.len().min(3)).collect());
-        self.calls.insert(ticket, Fate::default());
+        let is_hostile = |place| self.hostile.as_ref().is_some_and(|known| known.place == place);
+        let is_to_hostile = is_hostile(usize::from(target.owner.get()) - 1);
+        let fate = Fate { is_by_hostile: is_hostile(one), is_to_hostile, ..Fate::default() };
+        self.calls.insert(ticket, fate);
         match how % 8 {
             7 => node.engine.try_call(Ticket(ticket), target, how as u16, value),
             _ => node.engine.call(Ticket(ticket), target, how as u16, value),
@@ -226,15 +255,44 @@ impl World {
             let other = usize::from(peer.get()) - 1;
             self.break_off(one, other, false);
         }
+        for (peer, session) in turn.changes {
+            self.changed(one, usize::from(peer.get()) - 1, session);
+        }
         self.write(one, count);
     }
 
+    // No session between honest ones closes since either sent what no space sends, or where the other one hasn't closed
+    // it or opened it anew.
+    fn changed(&self, one: usize, other: usize, session: Session) {
+        let is_honest = !self.is_hostile(one) && !self.is_hostile(other);
+        let (true, Session::Closed(reason)) = (is_honest, session) else { return };
+        let is_closed = |session| matches!(session, Session::Closed(_));
+        let is_right = match reason {
+            Reason::Asked | Reason::RetriesUsedUp => true,
+            Reason::PeerClosed => {
+                is_closed(self.nodes[other].engine.session(space(one)))
+                    || self.opened.contains(&(one.min(other), one.max(other)))
+            }
+            _ => false,
+        };
+        assert!(is_right, "{}: {reason:?} with {}", one + 1, other + 1);
+    }
+
     fn write(&mut self, one: usize, count: usize) {
+        if self.is_mute(one) {
+            return;
+        }
         for other in (0..self.nodes.len()).filter(|other| *other != one) {
             if self.net.is_up(one, other) {
                 let out = self.nodes[one].engine.output(space(other));
                 let left = out.left();
                 let taken = self.net.write(one, other, &left[..left.len().min(count)]);
+                if let Some(hostile) = self.hostile.as_mut().filter(|known| known.place == one)
+                    && taken == left.len()
+                    && taken > 0
+                {
+                    hostile.said.insert(other, left.to_vec());
+                }
                 out.advance(taken);
             }
         }
@@ -245,10 +303,19 @@ impl World {
         if self.spoils {
             self.net.spoil(one, other);
         }
+        if self.is_deaf(other) {
+            return;
+        }
         let bytes = self.net.read(one, other, count);
         let node = &mut self.nodes[other];
-        if !bytes.is_empty() {
-            node.engine.bytes(space(one), &bytes, node.now).expect("what an honest peer sends");
+        if bytes.is_empty() {
+            return;
+        }
+        let heard = node.engine.bytes(space(one), &bytes, node.now);
+        match self.is_hostile(one) {
+            true if heard.is_err() => self.break_off(other, one, true),
+            true => {}
+            false => heard.expect("what an honest peer sends"),
         }
     }
 
@@ -320,11 +387,15 @@ impl World {
             if round == 40 {
                 want_memory(0, 0);
             }
+            if round == 20 {
+                self.cast_out();
+            }
             if round == 400 {
                 self.close_opened();
             }
             for one in 0..count {
-                (0..one).for_each(|other| self.connect(one, other));
+                let connected = if round < 20 { one } else { one.min(self.honest()) };
+                (0..connected).for_each(|other| self.connect(one, other));
                 self.nodes[one].now += Duration::from_millis(5);
                 (0..self.nodes[one].jobs.len()).for_each(|_| self.finish(one, 0, 0));
                 (0..self.nodes[one].hands.len()).for_each(|_| self.give_back(one, 0));
@@ -347,11 +418,14 @@ impl World {
                 && node.engine.is_settled()
                 && node.exported == node.withdrawn
         };
-        self.net.is_quiet() && self.nodes.iter().all(is_idle) && self.has_all_answers()
+        let honest = self.honest();
+        self.net.is_quiet(honest)
+            && self.nodes[..honest].iter().all(is_idle)
+            && self.has_all_answers()
     }
 
     fn has_all_answers(&self) -> bool {
-        self.calls.values().all(|fate| fate.is_abandoned || fate.answers > 0)
+        self.calls.values().all(Fate::is_settled)
     }
 
     fn state(&self) -> String {
@@ -363,7 +437,7 @@ impl World {
                 "{exported} exported, {withdrawn} withdrawn, {jobs} jobs, {hands} held, settled {settled}; "
             )
         };
-        let open = self.calls.iter().filter(|(_, fate)| !fate.is_abandoned && fate.answers == 0);
+        let open = self.calls.iter().filter(|(_, fate)| !fate.is_settled());
         let open: Vec<_> = open.map(|(ticket, _)| ticket).collect();
         self.nodes.iter().map(state).collect::<String>() + &format!("open calls {open:?}")
     }
@@ -373,21 +447,18 @@ impl World {
     pub fn judge(&self) {
         want_memory(0, 0);
         for (ticket, fate) in &self.calls {
-            let wanted = u32::from(!fate.is_abandoned);
-            assert!(
-                fate.answers == wanted || fate.is_abandoned && fate.answers == 0,
-                "{ticket}: {fate:?}"
-            );
-            assert!(fate.ran <= 1 && fate.replies <= fate.ran, "{ticket}: {fate:?}");
+            assert!(fate.judge(), "{ticket}: {fate:?}");
         }
         // Whoever has a reference is listed for its object whenever a call of it is acted on.
         let unlisted = |node: &Node| node.engine.counts().calls_unlisted;
-        assert_eq!(self.nodes.iter().map(unlisted).sum::<u64>(), 0);
+        assert!(self.hostile.is_some() || self.nodes.iter().map(unlisted).sum::<u64>() == 0);
         if !self.is_recorded {
             return;
         }
         let traces = self.traces();
-        if let Some(fault) = fault_of(&traces) {
+        // What it sends beside what its engine gives comes from nobody.
+        let hostile = self.hostile.as_ref().map(|hostile| space(hostile.place));
+        if let Some(fault) = fault_among(&traces, hostile) {
             panic!("{fault}");
         }
     }
@@ -407,6 +478,16 @@ impl World {
     /// How often memory or room was wanted.
     pub fn wants(&self) -> u64 {
         self.nodes.iter().map(|node| node.engine.counts().wants).sum()
+    }
+
+    /// How often somebody was seen to misbehave, and how many calls of honest ones to honest ones were replied to.
+    pub fn misbehaved(&self) -> u64 {
+        self.nodes.iter().map(|node| node.engine.counts().misbehaved).sum()
+    }
+
+    pub fn replies_of_honest(&self) -> u32 {
+        let between = self.calls.values().filter(|fate| !fate.is_by_hostile && !fate.is_to_hostile);
+        between.map(|fate| fate.replies).sum()
     }
 
     /// How many pairs of nodes were in more than one session.

@@ -155,7 +155,7 @@ impl fmt::Display for BoundsError {
 impl Error for BoundsError {
     fn source(&self) -> Option<&(dyn Error + 'static)> {
         match self {
-            BoundsError::Io(error) => Some(error),
+            BoundsError::Io(error) => error.source(),
             _ => None,
         }
     }
