@@ -1,6 +1,6 @@
 //! The ends of a lane.
 
-ghost use Rattle.std.specs.Prelude.{◌≡◌, ◌≤◌, ◌++◌, ◌∷◌, [], true, OnErr, MatchResult, MatchOption};
+ghost use Rattle.std.specs.Prelude.{◌≡◌, ◌≤◌, ◌++◌, ◌∷◌, [], true, false, OnErr, MatchResult, MatchOption};
 ghost use Rattle.crossbeam_channel.specs.Claims.{IsSeatAt};
 ghost use Rattle.crossbeam_channel.specs.Ends.{sends_on, receives_on, ruled_capacity};
 ghost use Rattle.nob_dispatch_lanes.specs.Ends.{stake_of, given_by, got_by, IsGiver, IsGetter};
@@ -21,11 +21,12 @@ pub struct LanePut<T: Drop> {
     pub ghost few: { ruled_capacity (sends_on sender) ≤ 1024 },
 }
 
-/// An end of a lane that gets errands.
+/// An end of a lane that gets errands. It knows whether it found none when it last looked.
 #[derive(Drop)]
 pub struct LaneTake<T: Drop> {
     pub(crate) receiver: RuledReceiver<T, Knowledge<T>, Fair>,
     pub(crate) pass: Pass<T, Knowledge<T>>,
+    pub(crate) has_found_none: bool,
     pub ghost seated: { IsSeatAt (receives_on receiver) pass },
     pub ghost gets: { IsGetter pass },
 }
@@ -67,9 +68,13 @@ impl<T: Drop> LaneTake<T> {
     pub fn get_as<R: Wait>(&mut self, rt: &R) -> Option<T>
         ensures answer { MatchOption result (got_by self.new.pass ≡ got_by self.old.pass)
             (λ errand. got_by self.new.pass ≡ got_by self.old.pass ++ errand ∷ []) }
+        ensures found { MatchOption result (self.new.has_found_none ≡ true)
+            (λ _. self.new.has_found_none ≡ false) }
         ensures stake { stake_of self.new.pass ≡ stake_of self.old.pass }
     {
-        self.receiver.recv_as::<Get, R>(rt, &mut self.pass).ok()
+        let errand = self.receiver.recv_as::<Get, R>(rt, &mut self.pass).ok();
+        self.has_found_none = errand.is_none();
+        errand
     }
 
     /// Gets the next errand if there is one now. It may answer that there is none while another
@@ -77,8 +82,12 @@ impl<T: Drop> LaneTake<T> {
     pub fn try_get_as<R: Wait>(&mut self, rt: &R) -> Option<T>
         ensures answer { MatchOption result (got_by self.new.pass ≡ got_by self.old.pass)
             (λ errand. got_by self.new.pass ≡ got_by self.old.pass ++ errand ∷ []) }
+        ensures found { MatchOption result (self.new.has_found_none ≡ true)
+            (λ _. self.new.has_found_none ≡ false) }
         ensures stake { stake_of self.new.pass ≡ stake_of self.old.pass }
     {
-        self.receiver.try_recv_as::<Get, R>(rt, &mut self.pass).ok()
+        let errand = self.receiver.try_recv_as::<Get, R>(rt, &mut self.pass).ok();
+        self.has_found_none = errand.is_none();
+        errand
     }
 }

@@ -41,6 +41,7 @@ pub fn gather<T: Drop, R: Wait>(
     let LaneTake {
         receiver,
         pass: first,
+        ..
     } = takes.remove(0);
     let pass = join(&sender, pass, first);
     let mut pass = join_getters(&sender, pass, takes);
@@ -111,6 +112,7 @@ fn join_getters<T: Drop>(
     let LaneTake {
         receiver: _receiver,
         pass: other,
+        ..
     } = ends.remove(0);
     let pass = join(sender, pass, other);
     join_getters(sender, pass, ends)

@@ -92,7 +92,11 @@ fn getter<T: Drop>(
 {
     let receiver = receiver.try_clone()?;
     let pass = first.sender.another::<Cut>(&mut first.pass);
-    Ok(LaneTake { receiver, pass })
+    Ok(LaneTake {
+        receiver,
+        pass,
+        has_found_none: false,
+    })
 }
 
 // `puts` ends that give to the lane of the first: the first and others, for each of which it gives

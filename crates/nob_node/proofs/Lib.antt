@@ -1,4 +1,3 @@
 pub mod Crossing
 mod Holdings
-mod Backs
 mod Shelved

@@ -1,7 +1,11 @@
 -- The objects that a node leaves. In lists of what came back the newest stands FIRST.
-use Rattle.std.specs.Prelude.{◌≡◌, ℕ, List, [], ◌∷◌, ◌++◌, map, Option, Some, None}
+use Rattle.std.specs.Prelude.{◌≡◌, ℕ, true, List, [], ◌∷◌, ◌++◌, map, Option, Some, None, Result, Ok, Err}
+use Rattle.std.specs.Global.{Vec}
 use Rattle.nob_model_types.specs.declared.answer.Job.{Job}
 use Rattle.nob_dispatch.specs.declared.errand.Errand.{Errand}
+use Rattle.nob_dispatch.specs.Serving.{Serving}
+use Rattle.nob_dispatch_lanes.specs.declared.ends.LaneTake.{LaneTake}
+use Rattle.nob_dispatch_lanes.specs.Ends.{got_by}
 use Rattle.nob_node_site.specs.Assigning.{with_return}
 use Rattle.nob_node_site.specs.Place.{Place}
 use Rattle.nob_node_site.specs.Place.TheVariants.{Here, Away}
@@ -9,7 +13,10 @@ use Rattle.nob_node_site.specs.Kept.{Kept}
 use Rattle.nob_node_site.specs.Kept.TheVariants.{Own, Agent}
 use Rattle.nob_node_site.specs.Left.{Left}
 use Rattle.nob_node_site.specs.Return.{Return}
+use Rattle.nob_node.specs.declared.error.NodeError.{NodeError}
+use Rattle.nob_node.specs.declared.running.Report.{Report}
 use Rattle.nob_node.specs.declared.leftovers.Rest.{Rest}
+use Rattle.nob_node.specs.declared.leftovers.Searched.{Searched}
 
 -- what an end of a lane has got, once it got these too
 abbrev pub got_with : {X : Type 0} → List X → List X → List X
@@ -33,10 +40,6 @@ module _ {B : Type 0} where
   with_returns [] shelf = shelf
   with_returns (back ∷ earlier) shelf = with_return back (with_returns earlier shelf)
 
-  -- some objects came back, or none: no place is added or goes, and what was here stays
-  abbrev pub SomeCameBack : (old new : List (ℕ × Place (Kept B))) → Type 0
-  SomeCameBack old new = (came : List (Return (Kept B))) × (new ≡ with_returns came old)
-
   -- the object of an errand, on its way back
   abbrev pub back_of : Errand (Kept B) → Return (Kept B)
   back_of errand = record { job = errand.job.job; index = errand.job.target; object = errand.object }
@@ -49,16 +52,36 @@ module _ {B : Type 0} where
   abbrev pub AllUnserved : (before after : List (Errand (Kept B))) → (old new : List (ℕ × Place (Kept B))) → Type 0
   AllUnserved before after old new = (came : List (Errand (Kept B))) × (after ≡ got_with came before) × (new ≡ with_returns (map back_of came) old)
 
-  -- the object of a job that a worker still had came back first, and then some others, or none
+  -- the object of the job that a worker still had came back, if there was one
   abbrev pub KeptCameBack : (running : Option Job) → (old new : List (ℕ × Place (Kept B))) → Type 0
-  KeptCameBack None old new = SomeCameBack old new
-  KeptCameBack (Some job) old new = (object : Kept B) × SomeCameBack (with_return (record { job = job.job; index = job.target; object = object }) old) new
+  KeptCameBack None old new = new ≡ old
+  KeptCameBack (Some job) old new = (object : Kept B) × (new ≡ with_return (record { job = job.job; index = job.target; object = object }) old)
 
-  -- objects are those that are on a shelf, once some came back, or none
-  abbrev pub AreLeft : List (ℕ × Place (Kept B)) → List (Left B) → Type 0
-  AreLeft shelf objects = (ended : List (ℕ × Place (Kept B))) × SomeCameBack shelf ended × (objects ≡ left_on ended)
+  -- all came back that a hand left: first the object that its worker still had, and then those of the errands that were left for it, until its end of their lane found none
+  abbrev pub HandCameBack : Serving (Kept B) → LaneTake (Errand (Kept B)) → (old new : List (ℕ × Place (Kept B))) → Type 0
+  HandCameBack hand end old new = (between : List (ℕ × Place (Kept B)))
+    × KeptCameBack hand.worker.running old between × AllUnserved hand.taken (got_by end.pass) between new × (end.has_found_none ≡ true)
 
-  -- objects are those that are left of what a desk left, if it left something
-  abbrev pub AreLeftIn : Option (Rest B) → List (Left B) → Type 0
-  AreLeftIn None objects = objects ≡ []
-  AreLeftIn (Some rest) objects = AreLeft rest.shelf objects
+  -- so it is of each hand, one after the other; their ends stand, in order, behind those before
+  abbrev pub HandsCameBack : List (Serving (Kept B)) → (before after : List (LaneTake (Errand (Kept B)))) → (old new : List (ℕ × Place (Kept B))) → Type 0
+  HandsCameBack [] before after old new = (after ≡ before) × (new ≡ old)
+  HandsCameBack (hand ∷ hands) before after old new = (end : LaneTake (Errand (Kept B))) × (between : List (ℕ × Place (Kept B)))
+    × HandCameBack hand end old between × HandsCameBack hands (before ++ end ∷ []) after between new
+
+  -- the application's objects that are on a desk's shelf once all came back: what each hand left, and then what was given back, until the desk's end of that lane found none
+  abbrev pub AreLeft : Rest B → List (Serving (Kept B)) → Searched B → List (Left B) → Type 0
+  AreLeft rest hands searched objects = (between ended : List (ℕ × Place (Kept B)))
+    × HandsCameBack hands [] searched.errands.items rest.shelf between
+    × AllCameBack (got_by rest.returns.pass) (got_by searched.returns.pass) between ended
+    × (searched.returns.has_found_none ≡ true) × (objects ≡ left_on ended)
+
+  -- the same of what a desk left, if it left something
+  abbrev pub AreLeftIn : Option (Rest B) → List (Serving (Kept B)) → Option (Searched B) → List (Left B) → Type 0
+  AreLeftIn None hands searched objects = objects ≡ []
+  AreLeftIn (Some rest) hands None objects = ⊥
+  AreLeftIn (Some rest) hands (Some searched) objects = AreLeft rest hands searched objects
+
+  -- the application's objects that come with what a node leaves: with its report, or with why there is none
+  abbrev pub objects_in : Result (Report B) (NodeError × Vec (Left B)) → List (Left B)
+  objects_in (Ok report) = report.objects.items
+  objects_in (Err failed) = failed.1.items

@@ -1,6 +1,6 @@
 //! What is left of a node's objects when its threads have ended.
 
-ghost use Rattle.std.specs.Prelude.{◌≡◌, ◌<◌, ◌++◌, [], vec_len, vec_capacity};
+ghost use Rattle.std.specs.Prelude.{◌≡◌, ◌<◌, ◌++◌, [], true, vec_len, vec_capacity};
 ghost use Rattle.nob_dispatch_lanes.specs.Ends.{got_by};
 ghost use Rattle.nob_node.specs.Leaving as leaving;
 ghost use Rattle.nob_node_site.specs.Assigning.{with_return};
@@ -41,18 +41,28 @@ pub(crate) fn keep(seats: &mut Vec<Seat>, seat: Seat) {
     let _ = seats.push(seat);
 }
 
-// Ends the hands and what is left of the desk: the application's objects.
+// The ends by which objects come back, once nothing was found there any more.
+#[derive(Drop)]
+pub(crate) struct Searched<B: Object> {
+    // Of each hand.
+    pub(crate) errands: Vec<LaneTake<Errand<Kept<B>>>>,
+    // Of the desk.
+    pub(crate) returns: LaneTake<Return<Kept<B>>>,
+}
+
+// Ends the hands and what is left of the desk: the application's objects, and the ends by which the
+// last of them came.
 pub(crate) fn end_pool<B: Object, R: Wait>(
     rt: &R,
     alloc: Global,
     hands: Vec<Hand<Kept<B>>>,
     rest: Option<Rest<B>>,
     seats: &mut Vec<Seat>,
-) -> Vec<Left<B>>
-    ensures { leaving.AreLeftIn rest result.items }
+) -> (Vec<Left<B>>, Option<Searched<B>>)
+    ensures { leaving.AreLeftIn rest hands.items result.1 result.0.items }
 {
     let Some(rest) = rest else {
-        return Vec::new(alloc);
+        return (Vec::new(alloc), None);
     };
     let Rest {
         seat,
@@ -60,21 +70,41 @@ pub(crate) fn end_pool<B: Object, R: Wait>(
         mut returns,
     } = rest;
     keep(seats, seat);
-    for hand in hands {
-        end_hand(rt, hand, seats, &mut shelf);
-    }
+    let mut errands = Vec::new(alloc);
+    end_hands(rt, hands, seats, &mut shelf, &mut errands);
     take_returned(rt, &mut returns, &mut shelf);
-    objects_of(rt, alloc, shelf)
+    let objects = objects_of(rt, alloc, shelf);
+    (objects, Some(Searched { errands, returns }))
 }
 
-// Ends a hand: its object comes back, and those of the errands that it left.
+// Ends the hands, one after the other: their ends stand behind those before.
+fn end_hands<B: Object, R: Wait>(
+    rt: &R,
+    mut hands: Vec<Hand<Kept<B>>>,
+    seats: &mut Vec<Seat>,
+    shelf: &mut Shelf<Kept<B>>,
+    ends: &mut Vec<LaneTake<Errand<Kept<B>>>>,
+)
+    ensures { leaving.HandsCameBack hands.items ends.old.items ends.new.items shelf.old shelf.new }
+{
+    if hands.is_empty() {
+        return;
+    }
+    let end = end_hand(rt, hands.remove(0), seats, shelf);
+    make_room(rt, ends);
+    ends.push_reserved(end);
+    end_hands(rt, hands, seats, shelf, ends);
+}
+
+// Ends a hand: its object comes back, and those of the errands that it left. Its end of their lane
+// found none any more.
 fn end_hand<B: Object, R: Wait>(
     rt: &R,
     hand: Hand<Kept<B>>,
     seats: &mut Vec<Seat>,
     shelf: &mut Shelf<Kept<B>>,
-)
-    ensures { leaving.KeptCameBack hand.worker.running shelf.old shelf.new }
+) -> LaneTake<Errand<Kept<B>>>
+    ensures { leaving.HandCameBack hand result shelf.old shelf.new }
 {
     let (seat, errand, mut errands, _returns) = hand.end();
     keep(seats, seat);
@@ -82,6 +112,7 @@ fn end_hand<B: Object, R: Wait>(
         put_back(errand, shelf);
     }
     take_unserved(rt, &mut errands, shelf);
+    errands
 }
 
 // The objects of errands that nobody got come back.
@@ -90,8 +121,9 @@ fn take_unserved<B: Object, R: Wait>(
     errands: &mut LaneTake<Errand<Kept<B>>>,
     shelf: &mut Shelf<Kept<B>>,
 )
-    ensures { leaving.AllUnserved (got_by errands.old.pass) (got_by errands.new.pass) shelf.old
+    ensures back { leaving.AllUnserved (got_by errands.old.pass) (got_by errands.new.pass) shelf.old
         shelf.new }
+    ensures none { errands.new.has_found_none ≡ true }
 {
     for _ in rt.forever() {
         let Some(errand) = errands.try_get_as(rt) else {
@@ -132,8 +164,9 @@ fn take_returned<B: Object, R: Wait>(
     returns: &mut LaneTake<Return<Kept<B>>>,
     shelf: &mut Shelf<Kept<B>>,
 )
-    ensures { leaving.AllCameBack (got_by returns.old.pass) (got_by returns.new.pass) shelf.old
+    ensures back { leaving.AllCameBack (got_by returns.old.pass) (got_by returns.new.pass) shelf.old
         shelf.new }
+    ensures none { returns.new.has_found_none ≡ true }
 {
     for _ in rt.forever() {
         let Some(back) = returns.try_get_as(rt) else {
@@ -175,13 +208,13 @@ fn keep_left<B: Object, R: Wait>(
     objects.push_reserved(Left { index, object });
 }
 
-// Room for an object more, once there is memory for it.
-fn make_room<B: Object, R: Wait>(rt: &R, objects: &mut Vec<Left<B>>)
-    ensures items { objects.new.items ≡ objects.old.items }
-    ensures room { vec_len objects.new < vec_capacity objects.new }
+// Room for one more, once there is memory for it.
+fn make_room<T: Drop, R: Wait>(rt: &R, all: &mut Vec<T>)
+    ensures items { all.new.items ≡ all.old.items }
+    ensures room { vec_len all.new < vec_capacity all.new }
 {
     for _ in rt.forever() {
-        if objects.reserve(1).is_ok() {
+        if all.reserve(1).is_ok() {
             return;
         }
         thread::yield_now();

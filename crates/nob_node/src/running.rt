@@ -9,7 +9,7 @@ ghost use denote.Param.Send.{IsSend, IsSync};
 
 use crate::app::App;
 use crate::error::NodeError;
-use crate::leftovers::{Rest, end_pool, keep, rest_of};
+use crate::leftovers::{Rest, Searched, end_pool, keep, rest_of};
 use crate::node::Node;
 use nob_dispatch_objects::Object;
 use nob_keeper::{Keep, Keeper, KeeperError, Record, Seat};
@@ -62,7 +62,8 @@ pub fn run<B: Object + Send, R: Threads + Wait + Sync, G: Gate + Sync, A: App<B>
         return Err(without_memory(alloc));
     };
     let (crew, remains) = run_threads(rt, alloc, &site, gate, crew, app);
-    finish(rt, alloc, config, site, crew, remains)
+    let (report, _searched) = finish(rt, alloc, config, site, crew, remains);
+    report
 }
 
 // What a node answers that has no memory for its parts.
@@ -127,7 +128,7 @@ fn run_app<B: Object, R: Wait, A: App<B>>(
     }
 }
 
-// Ends a node whose threads have ended.
+// Ends a node whose threads have ended: its report, and the ends by which the last objects came.
 fn finish<B: Object, R: Wait>(
     rt: &R,
     alloc: Global,
@@ -135,15 +136,17 @@ fn finish<B: Object, R: Wait>(
     site: Site<B>,
     crew: Option<Crew<B>>,
     remains: Remains<B>,
-) -> Result<Report<B>, (NodeError, Vec<Left<B>>)>
-    ensures recorded { IfOk result (λ report. nodes.IsRecorded report.«record») }
-    ensures own { IfOk result (λ report. nodes.IsOwn config report.«record») }
-    ensures kept { IfOk result (λ report. summaries.is_chain report.«record»
+) -> (
+    Result<Report<B>, (NodeError, Vec<Left<B>>)>,
+    Option<Searched<B>>,
+)
+    ensures recorded { IfOk result.0 (λ report. nodes.IsRecorded report.«record») }
+    ensures own { IfOk result.0 (λ report. nodes.IsOwn config report.«record») }
+    ensures kept { IfOk result.0 (λ report. summaries.is_chain report.«record»
         ≡ keeps_all config.keep) }
-    ensures objects { MatchResult result
-        (λ report. leaving.AreLeftIn remains.rest report.objects.items)
-        (λ failed. MatchOption crew (failed.1.items ≡ [])
-        (λ _. leaving.AreLeftIn remains.rest failed.1.items)) }
+    ensures objects { MatchOption crew (leaving.objects_in result.0 ≡ [])
+        (λ crew. leaving.AreLeftIn remains.rest crew.hands.items result.1
+            (leaving.objects_in result.0)) }
 {
     let has_failed = site.failure.has_come();
     let Parts {
@@ -160,15 +163,15 @@ fn finish<B: Object, R: Wait>(
     } = remains;
     let Some(crew) = crew else {
         keeper.shut();
-        return Err(without_memory(alloc));
+        return (Err(without_memory(alloc)), None);
     };
     let Crew { hands, mut seats } = crew;
     keep(&mut seats, seat);
     keep(&mut seats, carer.end());
     keep_all(&mut seats, outbox, inboxes);
-    let objects = end_pool(rt, alloc, hands, rest, &mut seats);
+    let (objects, searched) = end_pool(rt, alloc, hands, rest, &mut seats);
     if is_whole && !has_failed {
-        return close(keeper, config, seats, objects);
+        return (close(keeper, config, seats, objects), searched);
     }
     keeper.shut();
     let error = if is_whole {
@@ -176,7 +179,7 @@ fn finish<B: Object, R: Wait>(
     } else {
         KeeperError::OutOfMemory
     };
-    Err((NodeError::Keeper(error), objects))
+    (Err((NodeError::Keeper(error), objects)), searched)
 }
 
 // The seats of what transmitted and of those that took.

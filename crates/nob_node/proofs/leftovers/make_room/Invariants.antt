@@ -4,4 +4,4 @@ use Rattle.nob_node.proofs.leftovers.make_room.Given as goal
 abbrev pub invariant-loop : goal.invariant-loop
 invariant-loop g l =
     ((goal.iterator-loop g).can_next l.iterator' × (goal.iterator-loop g).is_finite l.iterator')
-    × (l.objects.items ≡ l.fn.objects.items)
+    × (l.all.items ≡ l.fn.all.items)
