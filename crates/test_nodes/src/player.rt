@@ -8,7 +8,7 @@ use nob_ids::SpaceId;
 use nob_pickle::Value;
 use nob_two_nodes::{Company, Hold, Node};
 use std::sync::Wait;
-use std::sync::atomic::AtomicU32;
+use std::sync::atomic::AtomicU64;
 use std::time::Duration;
 
 /// What an application does.
@@ -213,7 +213,7 @@ impl<'m> nob_two_nodes::Player<Thing> for Player<'m> {
 
 // Lets some time pass, in which what came is acknowledged.
 fn rest<R: Wait>(rt: &R) {
-    let nothing = AtomicU32::new(0);
+    let nothing = AtomicU64::new(0);
     nothing.park_timeout(rt, 0, Duration::from_millis(200));
 }
 
