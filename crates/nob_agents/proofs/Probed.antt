@@ -1,5 +1,5 @@
 -- What an agent that probes asks stays tied, where it asks one thing more.
-use Rattle.std.proofs.Common.{◌≡◌, ◌⊎◌, ℕ, zero, suc, List, [], ◌∷◌, Option, Some, None, Result, Ok, inl, inr, refl, sym, subst}
+use Rattle.std.proofs.Common.{◌≡◌, ◌⊎◌, ℕ, zero, suc, List, [], ◌∷◌, Option, Some, None, Result, Ok, inl, inr, replicate, refl, sym, subst}
 use Rattle.std.specs.Prelude.{slice_get, slice_set}
 use Rattle.std.specs.List.{AllByRecursion}
 use Rattle.nob_model_types.specs.declared.event.Event.{Event}
@@ -59,3 +59,8 @@ tied_after_probing receipt receipts untaken place probe tied = tied_after receip
 pub none_untaken : (receipts : List Receipt) (untaken : List (Option ℕ)) → AllByRecursion (λ one. one ≡ None) untaken → AllByRecursion (IsUntaken receipts) untaken
 none_untaken receipts [] none = tt
 none_untaken receipts (one ∷ others) none = (subst (IsUntaken receipts) (sym none.0) tt, none_untaken receipts others none.1)
+
+-- there is nothing at the places of a row of nothing
+pub all_nothing : (count : ℕ) → AllByRecursion (λ (one : Option ℕ). one ≡ None) (replicate count None)
+all_nothing zero = tt
+all_nothing (suc count) = (refl, all_nothing count)
