@@ -16,6 +16,8 @@ use Rattle.nob_agents.specs.declared.parcels.TakeParcel as TakeParcel
 use Rattle.nob_agents.specs.contracts.carer.Carer as Carer
 use Rattle.nob_agents.specs.contracts.carer.Carer.TheInside as CarerInside
 use Rattle.nob_agents.specs.contracts.asking.Asking as Asking
+use Rattle.nob_agents.specs.contracts.prober.Prober as Prober
+use Rattle.nob_agents.specs.contracts.prober.Prober.TheInside as ProberInside
 use Rattle.nob_agents.specs.contracts.timing.Timing as Timing
 use Rattle.nob_agents.specs.contracts.sender.Sender as Sender
 use Rattle.nob_agents.specs.contracts.sender.Sender.TheInside as SenderInside
@@ -43,6 +45,12 @@ pub carer_send : IsSend Carer.the_row
 carer_send =
     let T = CarerInside.the_type in
     view_send CarerInside.the_row _ _ _ _ (recorded_send (Struct (shape T)) T.D T.to T.to_one (struct_send (shape T) (seat_send, tt)))
+
+pub prober_send : IsSend Prober.the_row
+prober_send =
+    let T = ProberInside.the_type in
+    view_send ProberInside.the_row _ _ _ _ (recorded_send (Struct (shape T)) T.D T.to T.to_one (struct_send (shape T)
+    (seat_send, (search sendable, (search sendable, (search (crosses, sendable) depth 60 fits 20000, (search (crosses, sendable) depth 60 fits 20000, (search sendable, tt))))))))
 
 -- what takes, where the end of the link may cross
 module _ (E : RattleType) (g : TakeParcel.Ghosts E.Denot) (crossing : IsSend E) where

@@ -3,3 +3,4 @@ pub mod Caring
 pub mod Ways
 pub mod Sending
 pub mod Pauses
+pub mod Probing

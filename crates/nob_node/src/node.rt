@@ -396,7 +396,8 @@ impl<'x, B: Object> Node<'x, B> {
         self.site.live(rt)
     }
 
-    /// How many calls of this node aren't taken, how many jobs are ready, and how many run.
+    /// How many calls of this node aren't taken, those by which it asks whether a peer is there
+    /// among them, how many jobs are ready, and how many run.
     pub fn backlog<R: Wait>(&self, rt: &R) -> Backlog
         ensures { summaries.IsBacklog result }
     {

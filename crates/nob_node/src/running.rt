@@ -165,7 +165,14 @@ fn finish<B: Object, R: Wait>(
         keeper.shut();
         return (Err(without_memory(alloc)), None);
     };
-    let Crew { hands, mut seats } = crew;
+    let Crew {
+        hands,
+        prober,
+        mut seats,
+    } = crew;
+    if let Some(prober) = prober {
+        keep(&mut seats, prober.end());
+    }
     keep(&mut seats, seat);
     keep(&mut seats, carer.end());
     keep_all(&mut seats, outbox, inboxes);

@@ -61,7 +61,7 @@ idlers_sync = search (crosses, sendable) depth 60 fits 20000
 pub transmitting_sync : IsSync (Transmitting.the_field).row
 transmitting_sync =
     struct_sync (shape Transmitting.the_type)
-    (search (outbox_field_send, crosses, sendable) depth 60 fits 20000, (search (crosses, sendable) depth 60 fits 20000, (search (crosses, sendable) depth 60 fits 20000, (search (crosses, sendable) depth 60 fits 20000, (search (crosses, sendable) depth 60 fits 20000, tt)))))
+    (search (outbox_field_send, crosses, sendable) depth 60 fits 20000, (search (crosses, sendable) depth 60 fits 20000, (search (crosses, sendable) depth 60 fits 20000, (search (crosses, sendable) depth 60 fits 20000, (search (crosses, sendable) depth 60 fits 20000, (search (crosses, sendable) depth 60 fits 20000, tt))))))
 
 pub collecting_sync : IsSync (Collecting.the_field).row
 collecting_sync = struct_sync (shape Collecting.the_type) (search (carer_send, crosses, sendable) depth 60 fits 20000, (search (crosses, sendable) depth 60 fits 20000, tt))

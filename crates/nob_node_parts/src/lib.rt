@@ -22,7 +22,7 @@ pub use idlers::Idlers;
 pub use inbox::Inbox;
 pub use inboxes::Inboxes;
 pub use lookout::Lookout;
-pub use nob_agents::{Calls, Carer, Sender, Taker, Way};
+pub use nob_agents::{Calls, Carer, Prober, Sender, Taker, Turn, Way};
 pub use object::{Kept, Left};
 pub use outbox::{Outbox, Pulse};
 pub use pace::Pace;

@@ -30,6 +30,9 @@ impl Sleep {
     }
 }
 
+/// For how many microseconds it sleeps at most while nothing is out, and it probes.
+const WATCH: u64 = 10_000;
+
 /// What transmits for a node. Who hands something on offers a turn; one thread besides transmits
 /// again what is out.
 #[derive(Drop)]
@@ -37,8 +40,11 @@ pub struct Transmitting {
     outbox: Offered<Outbox>,
     // Whether something that was transmitted waits for room in a link.
     late: Retry,
-    // The thread that transmits again what is out sleeps here between its turns.
+    // The thread that transmits again what is out sleeps here between its turns. It counts how often
+    // that was woken.
     pulse: AtomicU64,
+    // Whether it sleeps for long, since nothing is out.
+    is_watching: AtomicBool,
     // Whether no more is transmitted: the links are ended.
     is_sealed: AtomicBool,
     // Whether all links are ended.
@@ -52,6 +58,7 @@ impl Transmitting {
             outbox: Offered::new(outbox),
             late: Retry::new(),
             pulse: AtomicU64::new(0),
+            is_watching: AtomicBool::new(false),
             is_sealed: AtomicBool::new(false),
             has_ended: AtomicBool::new(false),
         }
@@ -80,6 +87,12 @@ impl Transmitting {
         self.outbox.offer(rt, |outbox: &mut Outbox| {
             self.send(rt, keeper, failure, outbox);
         });
+        if self.is_watching.load(Ordering::SeqCst)
+            && self.is_watching.swap(false, Ordering::SeqCst)
+        {
+            self.pulse.fetch_add(1, Ordering::SeqCst);
+            self.pulse.wake_one();
+        }
     }
 
     // What is transmitted in a turn. What was handed on before the links are ended goes first:
@@ -120,8 +133,26 @@ impl Transmitting {
 
     /// Leaves the processor to others for a while. Nobody has to wake it.
     pub fn sleep<R: Wait>(&self, rt: &R, sleep: Sleep) {
-        self.pulse
-            .park_timeout(rt, 0, Duration::from_micros(sleep.micros()));
+        let pulse = self.pulse.load(Ordering::SeqCst);
+        self.park(rt, pulse, sleep.micros());
+    }
+
+    /// Leaves the processor to others for some milliseconds, while nothing is out. Who hands something
+    /// on wakes it.
+    pub fn watch<R: Wait>(&self, rt: &R) {
+        let pulse = self.pulse.load(Ordering::SeqCst);
+        self.is_watching.store(true, Ordering::SeqCst);
+        self.park(rt, pulse, WATCH);
+        self.is_watching.store(false, Ordering::SeqCst);
+    }
+
+    // Sleeps for so many microseconds at most, where it wasn't woken since the pulse was read.
+    fn park<R: Wait>(&self, rt: &R, pulse: u64, micros: u64) {
+        self.pulse.park_timeout(
+            rt,
+            (pulse % (1 << 32)) as u32,
+            Duration::from_micros(micros),
+        );
     }
 
     /// Ends all links: what is new is transmitted, and then the end is put on each.

@@ -6,6 +6,7 @@ use denote.Struct.Declared.{shape}
 use denote.Struct.Struct.{Struct}
 use Rattle.std.proofs.Crossing.{crosses, Vec-send}
 use Rattle.nob_keeper.proofs.Crossing.{keeper_field_sync, seat_send}
+use Rattle.nob_agents.proofs.Crossing.{prober_send}
 use Rattle.nob_node_jobs.proofs.Crossing.{hand_of_node_send, jobs_sync}
 use Rattle.nob_node_parts.proofs.object.Left.TheSendSync as left
 use Rattle.nob_node_parts.specs.contracts.object.Left as Left
@@ -28,4 +29,4 @@ module _ (B : RattleType) (crossing : IsSend B) where
   crew_send =
       let T = Crew.the_type B in
       recorded_send (Struct (shape T)) T.D T.to T.to_one (struct_send (shape T)
-      (search (hand_of_node_send B crossing, crosses, sendable) depth 60 fits 20000, (Vec-send _ seat_send, tt)))
+      (search (hand_of_node_send B crossing, crosses, sendable) depth 60 fits 20000, (search (prober_send, crosses, sendable) depth 60 fits 20000, (Vec-send _ seat_send, tt))))

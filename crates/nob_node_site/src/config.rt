@@ -35,8 +35,8 @@ impl Config {
     /// A space of so many, with these limits and 1 to 16 workers. What is out is transmitted again
     /// after a pause of `pause` turns of yielding, and less often where a peer answers nothing for
     /// long; the sessions' time ticks after every `tick_every` such pauses, never where that is 0.
-    /// All entries of its space are kept. `None` where a number is out of its range, or there is no
-    /// such space.
+    /// Where it ticks, a peer of whom nothing is heard is asked. All entries of its space are kept.
+    /// `None` where a number is out of its range, or there is no such space.
     pub fn new(
         space: SpaceId,
         n: u16,

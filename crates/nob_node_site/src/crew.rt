@@ -7,7 +7,7 @@ use crate::threads::{send, serve, take};
 use nob_dispatch_objects::Object;
 use nob_keeper::Seat;
 use nob_node_jobs::{Gate, Hand};
-use nob_node_parts::Kept;
+use nob_node_parts::{Kept, Prober};
 use std::sync::Wait;
 use std::thread::{self, Threads};
 
@@ -15,6 +15,8 @@ use std::thread::{self, Threads};
 #[derive(Drop)]
 pub struct Crew<B: Object> {
     pub hands: Vec<Hand<Kept<B>>>,
+    // What probes, where the sessions' time ticks.
+    pub prober: Option<Prober>,
     // Room for the seats of all.
     pub seats: Vec<Seat>,
 }
@@ -27,8 +29,13 @@ pub fn run_crew<'x, B: Object + Send, R: Threads + Wait + Sync, G: Gate + Sync>(
     gate: &'x G,
     crew: Crew<B>,
 ) -> Crew<B> {
-    let Crew { mut hands, seats } = crew;
+    let Crew {
+        mut hands,
+        mut prober,
+        seats,
+    } = crew;
     let serving = hands.as_mut_slice();
+    let probing = &mut prober;
     let handle = rt;
     thread::scope(
         thread::scope_env(),
@@ -49,10 +56,17 @@ pub fn run_crew<'x, B: Object + Send, R: Threads + Wait + Sync, G: Gate + Sync>(
                     is_whole = false;
                 }
             }
-            if scope.spawn(move || send(rt, site, is_whole)).is_err() {
+            if scope
+                .spawn(move || send(rt, site, probing, is_whole))
+                .is_err()
+            {
                 site.start.say(rt, false);
             }
         },
     );
-    Crew { hands, seats }
+    Crew {
+        hands,
+        prober,
+        seats,
+    }
 }

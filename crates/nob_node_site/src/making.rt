@@ -16,7 +16,7 @@ use nob_ids::SpaceId;
 use nob_keeper::{Keeper, Space};
 use nob_link::{PutEnd, TakeEnd};
 use nob_node_jobs::{Desk, Errand, Hand, Return};
-use nob_node_parts::{Carer, Inbox, Kept, Outbox, Sender, Taker, Way};
+use nob_node_parts::{Carer, Inbox, Kept, Outbox, Prober, Sender, Taker, Way};
 use std::alloc::Global;
 use std::sync::Mutex;
 
@@ -65,12 +65,28 @@ fn crew_of<B: Object>(
     let ways = ways_of(alloc, keeper, ends, &mut inboxes)?;
     let sender = Sender::new(keeper.seat(), ways, config.pause, config.tick_every);
     let (desk, hands) = pool_of(alloc, keeper, config.workers)?;
-    let crew = Crew { hands, seats };
+    let prober = prober_of(keeper, config);
+    let crew = Crew {
+        hands,
+        prober,
+        seats,
+    };
     Some((Outbox::new(alloc, sender), inboxes, desk, crew))
 }
 
-// The seats of the Sender, the Carer, the desk and the application, and of 16 workers.
-const OTHER_SEATS: usize = 20;
+// The seats of the Sender, the Carer, the Prober, the desk and the application, and of 16 workers.
+const OTHER_SEATS: usize = 21;
+
+// What probes, where the sessions' time ticks: first after some four times as long as a tick takes.
+// While nothing is out a turn takes as long as a hundred of the sender's.
+fn prober_of(keeper: &Keeper, config: &Config) -> Option<Prober> {
+    if config.tick_every == 0 {
+        return None;
+    }
+    let turns = config.tick_every.saturating_mul(config.pause);
+    let patience = turns / (25 * u32::from(config.n)) + 1;
+    Some(Prober::new(keeper.seat(), config.n, patience))
+}
 
 // A desk with the node's agent, and so many hands.
 fn pool_of<B: Object>(

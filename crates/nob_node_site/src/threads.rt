@@ -2,9 +2,9 @@
 
 use crate::site::Site;
 use nob_dispatch_objects::Object;
-use nob_keeper::Wake;
+use nob_keeper::{KeeperError, Wake};
 use nob_node_jobs::{Gate, Hand, carry_out};
-use nob_node_parts::{Kept, Pace, Pulse, Sleep};
+use nob_node_parts::{Kept, Pace, Prober, Pulse, Sleep, Turn};
 use std::sync::Wait;
 
 /// How many times running the thread that transmits again what is out sleeps shortly, while nothing
@@ -45,8 +45,14 @@ pub fn serve<B: Object, R: Wait, G: Gate>(
 
 /// Says whether all threads are made, this one being the last; then transmits what is out again, and
 /// does what others left to transmit, to claim, to settle, to clean and to withdraw, until the links are
-/// ended. It sleeps at the keeper while nothing is out.
-pub fn send<B: Object, R: Wait>(rt: &R, site: &Site<B>, is_whole: bool) {
+/// ended. While nothing is out it probes where it has what does, and sleeps at the keeper where it
+/// hasn't.
+pub fn send<B: Object, R: Wait>(
+    rt: &R,
+    site: &Site<B>,
+    prober: &mut Option<Prober>,
+    is_whole: bool,
+) {
     site.start.say(rt, is_whole);
     let mut standstill = Standstill::new();
     let mut pace = Pace::new(MANY_ENTRIES.0, MANY_ENTRIES.1);
@@ -61,6 +67,8 @@ pub fn send<B: Object, R: Wait>(rt: &R, site: &Site<B>, is_whole: bool) {
         let is_long = pace.is_much_at(dues.place);
         if pulse != Pulse::Done {
             site.transmitting.sleep(rt, sleep_of(is_short, is_long));
+        } else if let Some(prober) = prober {
+            probe(rt, site, prober);
         } else if !is_woken(rt, site, dues.place) {
             return;
         }
@@ -103,6 +111,16 @@ impl Standstill {
         let more = if pulse == Pulse::Busy { 1 } else { 0 };
         self.place = place.saturating_add(more);
         self.turns > 0 && self.turns < SHORT_RESTS
+    }
+}
+
+// A turn of what probes, and a rest where it asked nothing. Where the trace is full the node has
+// failed.
+fn probe<B: Object, R: Wait>(rt: &R, site: &Site<B>, prober: &mut Prober) {
+    match prober.turn(rt, &site.keeper) {
+        Ok(Turn::Did(_)) => {}
+        Err(KeeperError::Stamp) => site.fail(rt),
+        _ => site.transmitting.watch(rt),
     }
 }
 

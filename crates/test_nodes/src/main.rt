@@ -18,7 +18,7 @@ mod verdict;
 use crate::lasting::play_lasting;
 use crate::player::Part;
 use crate::reopening::play_reopening;
-use crate::running::{play, play_alone, play_cut};
+use crate::running::{play, play_alone, play_closing, play_cut};
 use crate::saying::{say, say_lasting, say_reopening, say_unbinding};
 use crate::unbinding::play_unbinding;
 use std::alloc::Global;
@@ -61,6 +61,7 @@ fn run<R: Threads + Wait + Sync + Print>(rt: &R, alloc: Global) -> io::Result<()
             1,
         )],
     )?;
+    run_closing(rt, alloc)?;
     say_lasting(rt, play_lasting(rt, alloc))?;
     say_reopening(rt, play_reopening(rt, alloc))?;
     say_unbinding(rt, play_unbinding(rt, alloc))
@@ -89,5 +90,21 @@ fn run_held<R: Threads + Wait + Sync + Print>(rt: &R, alloc: Global) -> io::Resu
             ("methods that run when the application leaves", 0),
             ("the method of a node whose application left", 1),
         ],
+    )
+}
+
+// Plays the scenes in which a session is closed by a Close that is lost.
+fn run_closing<R: Threads + Wait + Sync + Print>(rt: &R, alloc: Global) -> io::Result<()> {
+    let closing = play_closing(rt, alloc, Part::OwnsAndCloses);
+    say(
+        rt,
+        &closing,
+        &[("a call whose session is closed by a Close that is lost", 1)],
+    )?;
+    let reopening = play_closing(rt, alloc, Part::OwnsAndReopens);
+    say(
+        rt,
+        &reopening,
+        &[("the same where the session is opened anew at once", 1)],
     )
 }

@@ -8,6 +8,8 @@ use nob_ids::SpaceId;
 use nob_pickle::Value;
 use nob_two_nodes::{Company, Hold, Node};
 use std::sync::Wait;
+use std::sync::atomic::AtomicU64;
+use std::time::Duration;
 
 /// What an application does.
 #[derive(Clone, Copy, Debug, PartialEq, Eq)]
@@ -16,6 +18,10 @@ pub(crate) enum Part {
     Owns,
     /// Has objects for the others, and leaves while a method of one is held up.
     OwnsAndLeaves,
+    /// Has objects for the other, and closes the session while a method of one is held up.
+    OwnsAndCloses,
+    /// The same, and opens it anew at once.
+    OwnsAndReopens,
     /// Calls an object whose method is held up.
     CallsHeld,
     /// Calls another object meanwhile, and then has the method go on.
@@ -79,12 +85,19 @@ impl<'m> Player<'m> {
         let caller = offer(rt, node, refusals, b"caller", Thing::Caller);
         let _ = company.meet(rt);
         let _ = company.meet(rt);
-        if self.part == Part::OwnsAndLeaves {
-            self.shared.wait_held(rt);
-            self.said = running_at(rt, node);
-            self.shared.note_left();
-        } else {
-            let _ = company.meet(rt);
+        match self.part {
+            Part::OwnsAndLeaves => {
+                self.shared.wait_held(rt);
+                self.said = running_at(rt, node);
+                self.shared.note_left();
+            }
+            Part::OwnsAndCloses | Part::OwnsAndReopens => {
+                self.shared.wait_held(rt);
+                self.close(rt, node);
+            }
+            _ => {
+                let _ = company.meet(rt);
+            }
         }
         self.give_back(rt, node, one);
         self.give_back(rt, node, other);
@@ -100,6 +113,18 @@ impl<'m> Player<'m> {
         self.said = self.said_by(rt, node, &hold, Value::Unit);
         self.shared.end_holding();
         self.give_back(rt, node, hold);
+    }
+
+    // Closes the session with the second space, once nothing is out, and may open it anew at once.
+    fn close<R: Wait>(&mut self, rt: &R, node: &mut Node<Thing>) {
+        let Some(second) = SpaceId::new(2) else {
+            return;
+        };
+        rest(rt);
+        let _ = self.refusals.answered(node.close(rt, second));
+        if self.part == Part::OwnsAndReopens {
+            let _ = self.refusals.answered(node.open(rt, second));
+        }
     }
 
     // Calls another object meanwhile, or waits for the owner to leave; then the method goes on.
@@ -164,6 +189,8 @@ impl<'m> nob_two_nodes::Player<Thing> for Player<'m> {
         match self.part {
             Part::Owns => self.own(rt, node, company),
             Part::OwnsAndLeaves => self.own(rt, node, company),
+            Part::OwnsAndCloses => self.own(rt, node, company),
+            Part::OwnsAndReopens => self.own(rt, node, company),
             Part::CallsHeld => self.call_held(rt, node, company),
             Part::CallsOther => self.let_go_on(rt, node, company),
             Part::LetsGoOn => self.let_go_on(rt, node, company),
@@ -182,6 +209,12 @@ impl<'m> nob_two_nodes::Player<Thing> for Player<'m> {
     fn stays(&self) -> bool {
         self.part != Part::OwnsAndLeaves
     }
+}
+
+// Lets some time pass, in which what came is acknowledged.
+fn rest<R: Wait>(rt: &R) {
+    let nothing = AtomicU64::new(0);
+    nothing.park_timeout(rt, 0, Duration::from_millis(200));
 }
 
 // How many methods run at a node.
