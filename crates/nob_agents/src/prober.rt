@@ -231,11 +231,8 @@ fn called_by(receipt: &Receipt) -> Option<CallNo>
     ensures { result ≡ probing.called_by receipt.now.result }
 {
     match &receipt.result {
-        Ok(answer) => match answer {
-            Answer::Called(call) => Some(*call),
-            _ => None,
-        },
-        Err(_) => None,
+        Ok(Answer::Called(call)) => Some(*call),
+        _ => None,
     }
 }
 
