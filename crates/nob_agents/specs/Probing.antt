@@ -79,13 +79,13 @@ HasTurned turns.End old new = ⊥
 abbrev pub is_used : Tally → Bool
 is_used tally = is_none tally.closed && (nat_le 1 tally.sent || nat_le 1 tally.acted)
 
--- so many looks pass before a probe: twice as many after each probe that found nothing else, up to 512
-abbrev pub looks_before : (patience probes : ℕ) → ℕ
-looks_before patience probes = min (patience * 2 ^ min probes 9) (2 ^ 32 - 1)
+-- so many pauses pass before a probe: twice as many after each probe that found that nothing had happened, up to 512
+abbrev pub pauses_after : (probes : ℕ) → ℕ
+pauses_after probes = 2 ^ min probes 9
 
 -- whether it is time for a probe, where so many looks and so many probes found that nothing had happened
 abbrev pub is_time : (patience looks probes : ℕ) → Tally → Bool
-is_time patience looks probes tally = is_used tally && nat_le (looks_before patience probes) looks
+is_time patience looks probes tally = is_used tally && nat_le (min (patience * pauses_after probes) (2 ^ 32 - 1)) looks
 
 -- what is asked of a peer just where it is time: a probe of that peer
 abbrev pub IsNext : (patience looks probes : ℕ) → Tally → (peer : ℕ) → Event → Type 0

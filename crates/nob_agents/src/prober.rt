@@ -243,11 +243,19 @@ fn is_used(tally: Tally) -> bool
     tally.closed.is_none() && (tally.sent >= 1 || tally.acted >= 1)
 }
 
-// How many looks pass before a probe, where so many probes found that nothing had happened.
-fn looks_before(patience: u32, probes: u32) -> u32
-    ensures { result ≡ probing.looks_before patience probes }
+// How many pauses pass before a probe, where so many probes found that nothing had happened.
+fn pauses_after(probes: u32) -> u32
+    ensures { result ≡ probing.pauses_after probes }
 {
-    patience.saturating_mul(1 << probes.min(MAX_DOUBLINGS))
+    1 << probes.min(MAX_DOUBLINGS)
+}
+
+// Whether it is time for a probe, where so many looks and so many probes found that nothing had
+// happened.
+fn is_time(patience: u32, looks: u32, probes: u32, tally: Tally) -> bool
+    ensures { result ≡ probing.is_time patience looks probes tally }
+{
+    is_used(tally) && looks >= patience.saturating_mul(pauses_after(probes))
 }
 
 // What is asked of a peer, where so many looks and so many probes found that nothing had happened:
@@ -256,7 +264,7 @@ fn next(patience: u32, looks: u32, probes: u32, tally: Tally, peer: SpaceId) -> 
     ensures { MatchOption result (probing.is_time patience looks probes tally ≡ false)
         (λ event. probing.IsNext patience looks probes tally peer event) }
 {
-    if is_used(tally) && looks >= looks_before(patience, probes) {
+    if is_time(patience, looks, probes, tally) {
         Some(probe_of(peer))
     } else {
         None
