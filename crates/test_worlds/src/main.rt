@@ -1,4 +1,4 @@
-//! The program `test_worlds`: six tests of spaces and worlds. The first word of the command line
+//! The program `test_worlds`: four tests of spaces and worlds. The first word of the command line
 //! says which one is run, on standard input. Without a word standard input names tests, and each is
 //! run on what stands behind its name.
 #![tactic(auto)]
@@ -7,19 +7,15 @@ mod asking;
 mod births;
 mod closes;
 mod growths;
-mod held;
 mod naming;
 mod next;
 mod script;
-mod strangers;
 
 use crate::births::try_births;
 use crate::closes::{try_closes, try_lists};
 use crate::growths::try_growths;
-use crate::held::try_held;
 use crate::naming::{Test, own_input, test_named};
 use crate::next::try_next;
-use crate::strangers::try_strangers;
 use nob_text::first_line;
 use std::io::Read;
 use std::process::ExitCode;
@@ -51,7 +47,6 @@ fn run(rt: &HostRuntime) -> io::Result<()> {
             run_each(rt, input.as_slice())
         }
         Wanted::One(Test::Births, _) => try_births(rt),
-        Wanted::One(Test::Held, _) => try_held(rt),
         Wanted::One(test, has_more) => {
             let input = whole_input(rt)?;
             run_test(rt, test, has_more, input.as_slice())
@@ -105,7 +100,5 @@ fn run_test(rt: &HostRuntime, test: Test, has_lists: bool, input: &[u8]) -> io::
         Test::Births => try_births(rt),
         Test::Growths => try_growths(rt, input),
         Test::Next => try_next(rt, input),
-        Test::Strangers => try_strangers(rt, input),
-        Test::Held => try_held(rt),
     }
 }

@@ -15,10 +15,6 @@ pub enum Test {
     Growths,
     /// What each space could do next.
     Next,
-    /// What peers outside the runtime can send.
-    Strangers,
-    /// What two ends of a session hold.
-    Held,
 }
 
 /// The test of a name.
@@ -28,8 +24,6 @@ pub fn test_named(name: &[u8]) -> Option<Test> {
         b"births" => Some(Test::Births),
         b"growths" => Some(Test::Growths),
         b"next" => Some(Test::Next),
-        b"strangers" => Some(Test::Strangers),
-        b"held" => Some(Test::Held),
         _ => None,
     }
 }

@@ -1,22 +1,26 @@
-//! What peers outside the runtime can send. Streams of bytes are given to a Feed, which must answer
-//! what `decode` says at each place; and frames, good ones and altered ones, come to a space, whose
-//! every answer must be the right one by the definitions.
+//! The program `test_strangers`: what peers outside the runtime can send. Streams of bytes are
+//! given to a Feed, which must answer what `decode` says at each place; and frames, good ones and
+//! altered ones, come to a space, whose every answer must be the right one by the definitions. Then
+//! what two ends of a session hold while items go from one to the other.
+#![tactic(auto)]
 
 mod frames;
+mod held;
 mod lives;
 mod seen;
 mod streams;
 
-use crate::strangers::lives::{Life, new_space};
-use crate::strangers::seen::Happenings;
-use crate::strangers::streams::{changed_frames, frames_of, no_frames, try_stream};
+use crate::held::try_held;
+use crate::lives::{Life, new_space};
+use crate::seen::Happenings;
+use crate::streams::{changed_frames, frames_of, no_frames, try_stream};
 use nob_frame::FrameFault;
 use nob_ids::{Limits, SpaceId};
 use nob_rounds::Words;
 use nob_space::Space;
-use nob_text::{first_line, number_of};
 use std::alloc::{AllocError, Global};
 use std::io;
+use std::process::ExitCode;
 
 // The length of a long stream, in bytes.
 const LONG: usize = 100_000;
@@ -29,22 +33,25 @@ const CHANGED: u64 = 10_000;
 // The number of frames that come to one space.
 const FRAMES_OF_A_LIFE: u64 = 25;
 
-/// Tries streams and frames, and writes what is said of them. How many frames come to spaces is the
-/// number in the first line of an input.
-pub fn try_strangers(rt: &HostRuntime, input: &[u8]) -> io::Result<()> {
+fn main(rt: HostRuntime) -> ExitCode {
+    match run(&rt) {
+        Ok(()) => ExitCode::from(0),
+        Err(_) => ExitCode::from(1),
+    }
+}
+
+// Tries all, and writes what is said of it. How many frames come to spaces is read from standard
+// input.
+fn run(rt: &HostRuntime) -> io::Result<()> {
     let mut words = Words::new(1);
     try_long(rt, &mut words)?;
     try_changed(rt, &mut words)?;
-    let frames = number_in(rt.alloc(), input)?;
-    try_lives(rt, frames)
-}
-
-// The number in the first line of an input; or 0, where there is none.
-fn number_in(alloc: Global, input: &[u8]) -> Result<u64, AllocError> {
-    let Some((line, _)) = first_line(input) else {
-        return Ok(0);
-    };
-    Ok(number_of(alloc, line)?.unwrap_or(0))
+    let mut frames = 0;
+    for line in rt.lines(rt.alloc()) {
+        frames = line?.as_str().parse::<u64>().unwrap_or(0);
+    }
+    try_lives(rt, frames)?;
+    try_held(rt)
 }
 
 // Lets so many frames come to spaces, and writes what is said of it.

@@ -1,7 +1,7 @@
 //! Streams of bytes, given to a Feed in pieces of 1 to 64: it must answer what `decode` says at
 //! each place.
 
-use crate::strangers::frames::{any_frame, change_one, random_bytes, spelling_of};
+use crate::frames::{any_frame, change_one, random_bytes, spelling_of};
 use nob_frame::{Feed, Frame, FrameError, FrameFault, decode};
 use nob_model::same_frame;
 use nob_rounds::Words;

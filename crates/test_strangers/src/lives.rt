@@ -1,10 +1,10 @@
 //! Short lives of one space among strangers: each answer must be the right one by the definitions.
 
-use crate::strangers::frames::{
+use crate::frames::{
     change_one, good_payload, random_payload, random_rep, random_session, random_space,
     random_value, reason_bytes, spelling_of,
 };
-use crate::strangers::seen::Happenings;
+use crate::seen::Happenings;
 use nob_frame::{Bytes, Frame, FrameError, FrameKind, decode};
 use nob_ids::{CallNo, JobNo, Limits, SpaceId, WireRep};
 use nob_model::{Answer, Entry, Event, Here, Outcome, Refusal, right, same_result};
