@@ -15,7 +15,7 @@ use Rattle.nob_agents.specs.declared.parcels.PutParcel as PutParcel
 use Rattle.nob_agents.specs.declared.parcels.TakeParcel as TakeParcel
 use Rattle.nob_agents.specs.contracts.carer.Carer as Carer
 use Rattle.nob_agents.specs.contracts.carer.Carer.TheInside as CarerInside
-use Rattle.nob_agents.specs.contracts.asking.Asking as Asking
+use Rattle.nob_agents.specs.contracts.due_event.DueEvent as DueEvent
 use Rattle.nob_agents.specs.contracts.prober.Prober as Prober
 use Rattle.nob_agents.specs.contracts.prober.Prober.TheInside as ProberInside
 use Rattle.nob_agents.specs.contracts.timing.Timing as Timing
@@ -29,11 +29,11 @@ use Rattle.nob_agents.specs.contracts.way.Way.TheInside as WayInside
 event_send : IsSend (Event.the_field).row
 event_send = search (bytes.the_send, crosses, values.crosses, sendable) depth 60 fits 20000
 
-asking_field_send : IsSend (Asking.the_field).row
-asking_field_send = struct_send (shape Asking.the_type) (search sendable, (event_send, tt))
+due_event_field_send : IsSend (DueEvent.the_field).row
+due_event_field_send = struct_send (shape DueEvent.the_type) (search sendable, (event_send, tt))
 
-asking_send : IsSend Asking.the_row
-asking_send = let T = Asking.the_type in recorded_send (Struct (shape T)) T.D T.to T.to_one asking_field_send
+due_event_send : IsSend DueEvent.the_row
+due_event_send = let T = DueEvent.the_type in recorded_send (Struct (shape T)) T.D T.to T.to_one due_event_field_send
 
 parcel_send : IsSend Parcel.the_row
 parcel_send = search (bytes.the_send, crosses, sendable) depth 60 fits 20000
@@ -58,7 +58,7 @@ module _ (E : RattleType) (g : TakeParcel.Ghosts E.Denot) (crossing : IsSend E) 
   taker_send =
       let T = TakerInside.the_type E g in
       view_send (TakerInside.the_row E g) _ _ _ _ (recorded_send (Struct (shape T)) T.D T.to T.to_one (struct_send (shape T)
-      (seat_send, (search sendable, (search (crossing, sendable), (search (asking_send, crosses, sendable) depth 60 fits 20000, (search sendable, (search sendable, tt))))))))
+      (seat_send, (search sendable, (search (crossing, sendable), (search (due_event_send, crosses, sendable) depth 60 fits 20000, (search sendable, (search sendable, tt))))))))
 
 -- what transmits, where the ends of the links may cross
 module _ (E : RattleType) (g : PutParcel.Ghosts E.Denot) (crossing : IsSend E) where

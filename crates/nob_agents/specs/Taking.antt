@@ -7,14 +7,14 @@ use Rattle.nob_model_types.specs.declared.event.Event.TheVariants as events
 use Rattle.nob_link.specs.declared.parcel.Parcel.{Parcel}
 use Rattle.nob_link.specs.declared.parcel.Parcel.TheVariants as parcels
 use Rattle.nob_keeper.specs.Receipt.{Receipt}
-use Rattle.nob_agents.specs.declared.asking.Asking.{Asking}
+use Rattle.nob_agents.specs.declared.due_event.DueEvent.{DueEvent}
 
 -- an agent that takes, as contracts see it: whom it takes from; the parcels that it took, the first first; its receipts, the newest FIRST; and what it is to ask
 pub record Taking : Type 0 where
   pub peer : ℕ
   pub taken : List Parcel
   pub receipts : List Receipt
-  pub due : Option Asking
+  pub due : Option DueEvent
 
 -- a frame and a stamp
 pub record Dated : Type 0 where
@@ -42,7 +42,7 @@ arrivals [] = []
 arrivals (receipt ∷ others) = with_arrival receipt.event receipt.stamp (arrivals others)
 
 -- the frame that is to arrive, with the stamp of its parcel, if one is
-abbrev pub kept_of : Option Asking → Option Dated
+abbrev pub kept_of : Option DueEvent → Option Dated
 kept_of None = None
 kept_of (Some due) = kept_in due.event due.seen
   where
@@ -68,7 +68,7 @@ IsAbout peer (events.Close other) = other ≡ peer
 IsAbout peer _ = ⊥
 
 -- the same of what it is to ask, if it is to ask something
-abbrev pub IsDueAbout : ℕ → Option Asking → Type 0
+abbrev pub IsDueAbout : ℕ → Option DueEvent → Type 0
 IsDueAbout peer None = Unit {0}
 IsDueAbout peer (Some due) = IsAbout peer due.event
 

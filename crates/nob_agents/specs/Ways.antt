@@ -4,8 +4,8 @@ use Rattle.nob_link.specs.declared.parcel.Parcel.{Parcel}
 use Rattle.nob_link.specs.declared.fault.TryPutError.{TryPutError}
 use Rattle.nob_link.specs.declared.fault.TryPutError.TheVariants as refusals
 use Rattle.nob_fault.specs.Shims.{Shimming, shim_after, output}
-use Rattle.nob_agents.specs.declared.way.Step.{Step}
-use Rattle.nob_agents.specs.declared.way.Step.TheVariants as steps
+use Rattle.nob_agents.specs.declared.way.PutStep.{PutStep}
+use Rattle.nob_agents.specs.declared.way.PutStep.TheVariants as steps
 
 -- a way, as contracts see it: whom it leads to, its shim, what its end put, what is kept behind the shim, and whether its end was answered that the other end is gone
 pub record Way : Type 0 where
@@ -43,7 +43,7 @@ abbrev pub with_next_put : Way → Parcel → List Parcel → Way
 with_next_put way parcel rest = record { peer = way.peer; shim = way.shim; put = way.put ++ parcel ∷ []; after = rest; gone = way.gone }
 
 -- what a way is after each answer to a try to put: the first was put; there is none, or nothing more is put; the link is full; or the other end is gone, and nothing was put
-abbrev pub IsStep : Step → Way → Way → Type 0
+abbrev pub IsStep : PutStep → Way → Way → Type 0
 IsStep steps.Put old new = (parcel : Parcel) × (rest : List Parcel) × (old.after ≡ parcel ∷ rest) × (new ≡ with_next_put old parcel rest)
 IsStep steps.Nothing old new = ((old.gone ≡ true) ⊎ (old.after ≡ [])) × (new ≡ old)
 IsStep steps.Full old new = new ≡ old

@@ -1,9 +1,9 @@
 //! The agents of a node: they carry frames between the links and the keeper of a space.
 #![tactic(auto)]
 
-mod asking;
 mod calls;
 mod carer;
+mod due_event;
 mod parcels;
 mod passing;
 mod prober;
@@ -13,13 +13,13 @@ mod timing;
 mod turn;
 mod way;
 
-pub use asking::Asking;
 pub use calls::Calls;
 pub use carer::Carer;
+pub use due_event::DueEvent;
 pub use nob_keeper::{Dues, Keeper, KeeperError, Seat};
 pub use parcels::{PutParcel, TakeParcel};
 pub use prober::{Prober, Tallies};
 pub use sender::Sender;
 pub use taker::Taker;
 pub use turn::Turn;
-pub use way::{Step, Way};
+pub use way::{PutStep, Way};

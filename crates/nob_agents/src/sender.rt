@@ -10,7 +10,7 @@ use crate::parcels::PutParcel;
 use crate::passing::{has_gone_on, is_about, kept_behind, next_of, pass_on};
 use crate::timing::Timing;
 use crate::turn::Turn;
-use crate::way::{Step, Way};
+use crate::way::{PutStep, Way};
 use nob_ids::SpaceId;
 use nob_keeper::{Due, Dues, KeeperError, Seat};
 use nob_model_types::Event;
@@ -90,9 +90,9 @@ impl<P: PutParcel + Drop> Sender<P> {
     }
 
     // Puts the next parcel that is kept behind a shim, if there is one.
-    fn put_next<R: Wait>(&mut self, rt: &R) -> Step {
+    fn put_next<R: Wait>(&mut self, rt: &R) -> PutStep {
         let Some(at) = kept_behind(self.ways.as_slice()) else {
-            return Step::Nothing;
+            return PutStep::Nothing;
         };
         let way = &mut self.ways[at];
         way.put_next(rt)
@@ -151,10 +151,10 @@ impl<P: PutParcel + Drop> Sender<P> {
         let mut count: u64 = 0;
         for _ in 0..MAX_STEPS {
             match self.put_next(rt) {
-                Step::Put => count = count.saturating_add(1),
-                Step::Full => return Ok((count, false)),
-                Step::Gone => self.note_gone(),
-                Step::Nothing => {
+                PutStep::Put => count = count.saturating_add(1),
+                PutStep::Full => return Ok((count, false)),
+                PutStep::Gone => self.note_gone(),
+                PutStep::Nothing => {
                     if !self.pass_next()? {
                         return Ok((count, true));
                     }

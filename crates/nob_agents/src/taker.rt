@@ -3,8 +3,8 @@
 ghost use Rattle.std.specs.Prelude.{◌≡◌, ◌≢◌, [], None, OnOk};
 ghost use Rattle.nob_agents.specs.Taking.{IsTied};
 
-use crate::asking::Asking;
 use crate::calls::Calls;
+use crate::due_event::DueEvent;
 use crate::parcels::TakeParcel;
 use crate::turn::Turn;
 use nob_ids::SpaceId;
@@ -25,7 +25,7 @@ pub struct Taker<T: TakeParcel + Drop> {
     seat: Seat,
     peer: SpaceId,
     end: T,
-    due: Option<Asking>,
+    due: Option<DueEvent>,
     // How many accepted items it hasn't tried to act on.
     accepted: u64,
     has_ended: bool,
@@ -81,7 +81,7 @@ impl<T: TakeParcel + Drop> Taker<T> {
     {
         match self.end.try_take(rt) {
             Ok(Parcel::Frame { stamp, frame }) => {
-                self.due = Some(Asking {
+                self.due = Some(DueEvent {
                     seen: stamp,
                     event: Event::Arrive(frame),
                 });
@@ -90,7 +90,7 @@ impl<T: TakeParcel + Drop> Taker<T> {
             Err(TryTakeError::Empty) => {}
             Err(TryTakeError::Gone) => {
                 self.has_ended = true;
-                self.due = Some(Asking {
+                self.due = Some(DueEvent {
                     seen: 0,
                     event: Event::Close(self.peer),
                 });
@@ -110,7 +110,7 @@ impl<T: TakeParcel + Drop> Taker<T> {
         }
         match self.end.take(rt) {
             Some(Parcel::Frame { stamp, frame }) => {
-                self.due = Some(Asking {
+                self.due = Some(DueEvent {
                     seen: stamp,
                     event: Event::Arrive(frame),
                 });
@@ -118,7 +118,7 @@ impl<T: TakeParcel + Drop> Taker<T> {
             Some(Parcel::End) => self.has_ended = true,
             None => {
                 self.has_ended = true;
-                self.due = Some(Asking {
+                self.due = Some(DueEvent {
                     seen: 0,
                     event: Event::Close(self.peer),
                 });
@@ -179,7 +179,7 @@ impl<T: TakeParcel + Drop> Taker<T> {
 
     /// Its parts, which are tied: what its end took is what arrived by its receipts, but for at
     /// most one frame, and what it asked besides is about its peer.
-    pub fn end(self) -> (Seat, T, Option<Asking>)
+    pub fn end(self) -> (Seat, T, Option<DueEvent>)
         ensures parts { self ≡ record {
           peer = self.peer;
           taken = T.taken result.1;

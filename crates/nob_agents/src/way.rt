@@ -14,7 +14,7 @@ use std::sync::Wait;
 
 /// What came of a try to put a parcel.
 #[derive(Clone, Copy, Debug, PartialEq, Eq)]
-pub enum Step {
+pub enum PutStep {
     /// One was put.
     Put,
     /// There was none to put.
@@ -97,22 +97,22 @@ impl<P: PutParcel + Drop> Way<P> {
 
     /// Puts the next parcel behind the shim, if there is one and the link has room; nothing more
     /// where the other end of the link is gone. It takes no memory.
-    pub fn put_next<R: Wait>(&mut self, rt: &R) -> Step
+    pub fn put_next<R: Wait>(&mut self, rt: &R) -> PutStep
         ensures tied { (fed : List ParcelOf) → IsTied fed self.old → IsTied fed self.new }
         ensures same { IsSameWay self.old self.new }
         ensures step { IsStep result self.old self.new }
     {
         if self.has_gone() || self.after.is_empty() {
-            return Step::Nothing;
+            return PutStep::Nothing;
         }
         let parcel = self.after.remove(0);
         match self.end.try_put(rt, parcel) {
-            Ok(()) => Step::Put,
+            Ok(()) => PutStep::Put,
             Err(TryPutError::Full { parcel }) => {
                 put_back(&mut self.after, parcel);
-                Step::Full
+                PutStep::Full
             }
-            Err(TryPutError::Gone(_)) => Step::Gone,
+            Err(TryPutError::Gone(_)) => PutStep::Gone,
         }
     }
 

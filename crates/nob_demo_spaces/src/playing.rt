@@ -9,7 +9,7 @@ use crate::scene::Scene;
 use crate::{Counter, SceneEnding, Score, Stop, graver, say};
 use nob_chain::Chain;
 use nob_nodes::{
-    Keep, Layout, Left, Nobody, NodeError, Nodes, OpenGate, Played, Record, Report, Summary,
+    Keep, Layout, LeftObject, Nobody, NodeError, Nodes, OpenGate, Played, Record, Report, Summary,
     run_nodes,
 };
 use std::alloc::Global;
@@ -132,7 +132,7 @@ fn kept(
 
 // The record that a node left, or why it couldn't go on.
 fn record_in(
-    left: Result<Report<Counter>, (NodeError, Vec<Left<Counter>>)>,
+    left: Result<Report<Counter>, (NodeError, Vec<LeftObject<Counter>>)>,
 ) -> Result<Record, Stop> {
     match left {
         Ok(report) => {

@@ -8,7 +8,7 @@ ghost use Rattle.nob_node_site.specs.Assigning.{with_return};
 use nob_dispatch_lanes::LaneTake;
 use nob_dispatch_objects::Object;
 use nob_keeper::Seat;
-use nob_node_site::{Desk, Errand, Hand, Kept, Left, Place, Remaining, Return, Shelf};
+use nob_node_site::{Desk, Errand, Hand, Kept, LeftObject, Place, Remaining, Return, Shelf};
 use std::alloc::Global;
 use std::sync::Wait;
 use std::thread;
@@ -58,7 +58,7 @@ pub(crate) fn end_pool<B: Object, R: Wait>(
     hands: Vec<Hand<Kept<B>>>,
     rest: Option<Rest<B>>,
     seats: &mut Vec<Seat>,
-) -> (Vec<Left<B>>, Option<Searched<B>>)
+) -> (Vec<LeftObject<B>>, Option<Searched<B>>)
     ensures { leaving.AreLeftIn rest hands.items result.1 result.0.items }
 {
     let Some(rest) = rest else {
@@ -179,7 +179,11 @@ fn take_returned<B: Object, R: Wait>(
 // The application's objects, by rising index. Where there is no memory for them it waits for some:
 // none is lost.
 #[tactic(auto, using(crate::proofs::Shelved::left_more, crate::proofs::Shelved::left_all))]
-fn objects_of<B: Object, R: Wait>(rt: &R, alloc: Global, mut shelf: Shelf<Kept<B>>) -> Vec<Left<B>>
+fn objects_of<B: Object, R: Wait>(
+    rt: &R,
+    alloc: Global,
+    mut shelf: Shelf<Kept<B>>,
+) -> Vec<LeftObject<B>>
     ensures { result.items ≡ leaving.left_on shelf }
 {
     let mut objects = Vec::new(alloc);
@@ -192,7 +196,7 @@ fn objects_of<B: Object, R: Wait>(rt: &R, alloc: Global, mut shelf: Shelf<Kept<B
 // The object of a place too, where it is the application's and here.
 fn keep_left<B: Object, R: Wait>(
     rt: &R,
-    objects: &mut Vec<Left<B>>,
+    objects: &mut Vec<LeftObject<B>>,
     index: u64,
     place: Place<Kept<B>>,
 )
@@ -205,7 +209,7 @@ fn keep_left<B: Object, R: Wait>(
         return;
     };
     make_room(rt, objects);
-    objects.push_reserved(Left { index, object });
+    objects.push_reserved(LeftObject { index, object });
 }
 
 // Room for one more, once there is memory for it.

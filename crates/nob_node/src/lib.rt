@@ -12,6 +12,6 @@ pub use app::App;
 pub use error::NodeError;
 pub use hold::{Hold, Returned};
 pub use nob_keeper::{Backlog, Keep, KeeperError, PeerTally, Record, Summary, Tally};
-pub use nob_node_site::{Config, Ends, Gate, Left, OpenGate};
+pub use nob_node_site::{Config, Ends, Gate, LeftObject, OpenGate};
 pub use node::Node;
 pub use running::{Report, run};

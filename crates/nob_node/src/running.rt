@@ -14,7 +14,7 @@ use crate::node::Node;
 use nob_dispatch_objects::Object;
 use nob_keeper::{Keep, Keeper, KeeperError, Record, Seat};
 use nob_node_site::{
-    Config, Crew, Ends, Gate, Inbox, Left, Outbox, Parts, Site, run_crew, site_of,
+    Config, Crew, Ends, Gate, Inbox, LeftObject, Outbox, Site, SiteParts, run_crew, site_of,
 };
 use std::alloc::Global;
 use std::sync::{Mutex, Wait};
@@ -27,7 +27,7 @@ pub struct Report<B: Object> {
     /// they come to.
     pub record: Record,
     /// The application's objects that weren't withdrawn, by rising index.
-    pub objects: Vec<Left<B>>,
+    pub objects: Vec<LeftObject<B>>,
 }
 
 // What is left when all threads have ended.
@@ -52,7 +52,7 @@ pub fn run<B: Object + Send, R: Threads + Wait + Sync, G: Gate + Sync, A: App<B>
     ends: Vec<Ends>,
     gate: &G,
     app: &mut A,
-) -> Result<Report<B>, (NodeError, Vec<Left<B>>)>
+) -> Result<Report<B>, (NodeError, Vec<LeftObject<B>>)>
     ensures recorded { IfOk result (λ report. nodes.IsRecorded report.«record») }
     ensures own { IfOk result (λ report. nodes.IsOwn config report.«record») }
     ensures kept { IfOk result (λ report. summaries.is_chain report.«record»
@@ -67,7 +67,7 @@ pub fn run<B: Object + Send, R: Threads + Wait + Sync, G: Gate + Sync, A: App<B>
 }
 
 // What a node answers that has no memory for its parts.
-fn without_memory<B: Object>(alloc: Global) -> (NodeError, Vec<Left<B>>)
+fn without_memory<B: Object>(alloc: Global) -> (NodeError, Vec<LeftObject<B>>)
     ensures { result.1.items ≡ [] }
 {
     (NodeError::Keeper(KeeperError::OutOfMemory), Vec::new(alloc))
@@ -137,7 +137,7 @@ fn finish<B: Object, R: Wait>(
     crew: Option<Crew<B>>,
     remains: Remains<B>,
 ) -> (
-    Result<Report<B>, (NodeError, Vec<Left<B>>)>,
+    Result<Report<B>, (NodeError, Vec<LeftObject<B>>)>,
     Option<Searched<B>>,
 )
     ensures recorded { IfOk result.0 (λ report. nodes.IsRecorded report.«record») }
@@ -146,10 +146,10 @@ fn finish<B: Object, R: Wait>(
         ≡ keeps_all config.keep) }
     ensures objects { MatchOption crew (leaving.objects_in result.0 ≡ [])
         (λ crew. leaving.AreLeftIn remains.rest crew.hands.items result.1
-            (leaving.objects_in result.0)) }
+        (leaving.objects_in result.0)) }
 {
     let has_failed = site.failure.has_come();
-    let Parts {
+    let SiteParts {
         keeper,
         outbox,
         inboxes,
@@ -209,8 +209,8 @@ fn close<B: Object>(
     keeper: Keeper,
     config: Config,
     seats: Vec<Seat>,
-    objects: Vec<Left<B>>,
-) -> Result<Report<B>, (NodeError, Vec<Left<B>>)>
+    objects: Vec<LeftObject<B>>,
+) -> Result<Report<B>, (NodeError, Vec<LeftObject<B>>)>
     ensures recorded { IfOk result (λ report. nodes.IsRecorded report.«record») }
     ensures own { IfOk result (λ report. nodes.IsOwn config report.«record») }
     ensures kept { IfOk result (λ report. summaries.is_chain report.«record»

@@ -23,7 +23,7 @@ pub use inbox::Inbox;
 pub use inboxes::Inboxes;
 pub use lookout::Lookout;
 pub use nob_agents::{Calls, Carer, Prober, Sender, Taker, Turn, Way};
-pub use object::{Kept, Left};
+pub use object::{Kept, LeftObject};
 pub use outbox::{Outbox, Pulse};
 pub use pace::Pace;
 pub use replies::{Coming, Replies, coming_by, has_accepted};

@@ -71,7 +71,7 @@ impl<B: Object> Kept<B> {
 
 /// An object that was not withdrawn when its node ended.
 #[derive(Drop)]
-pub struct Left<B: Object> {
+pub struct LeftObject<B: Object> {
     /// Its index.
     pub index: u64,
     /// The object.

@@ -4,7 +4,7 @@ ghost use Rattle.std.specs.Prelude.{◌≡◌, [], true, Some, None};
 ghost use Rattle.nob_node_parts.specs.Outboxes as outboxes;
 ghost use Rattle.nob_node_parts.specs.declared.outbox.Pulse.TheVariants as pulses;
 
-use nob_agents::{Dues, Keeper, KeeperError, Seat, Sender, Step, Turn, Way};
+use nob_agents::{Dues, Keeper, KeeperError, PutStep, Seat, Sender, Turn, Way};
 use nob_link::{Parcel, PutEnd};
 use std::alloc::Global;
 use std::sync::Wait;
@@ -156,10 +156,10 @@ impl Outbox {
 fn end_way<R: Wait>(rt: &R, way: &mut Way<PutEnd>, has_passed: &mut bool) -> bool {
     for _ in rt.forever() {
         match way.put_next(rt) {
-            Step::Put => {}
-            Step::Full => return false,
-            Step::Gone => return true,
-            Step::Nothing => {
+            PutStep::Put => {}
+            PutStep::Full => return false,
+            PutStep::Gone => return true,
+            PutStep::Nothing => {
                 if *has_passed || way.has_gone() {
                     return true;
                 }

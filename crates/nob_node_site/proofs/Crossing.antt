@@ -8,15 +8,15 @@ use Rattle.std.proofs.Crossing.{crosses, Vec-send}
 use Rattle.nob_keeper.proofs.Crossing.{keeper_field_sync, seat_send}
 use Rattle.nob_agents.proofs.Crossing.{prober_send}
 use Rattle.nob_node_jobs.proofs.Crossing.{hand_of_node_send, jobs_sync}
-use Rattle.nob_node_parts.proofs.object.Left.TheSendSync as left
-use Rattle.nob_node_parts.specs.contracts.object.Left as Left
+use Rattle.nob_node_parts.proofs.object.LeftObject.TheSendSync as left
+use Rattle.nob_node_parts.specs.contracts.object.LeftObject as LeftObject
 use Rattle.nob_node_parts.proofs.Crossing.{start_sync, failure_sync, transmitting_sync, collecting_sync, inboxes_sync, replies_sync, idlers_sync}
 use Rattle.nob_node_site.specs.contracts.crew.Crew as Crew
 use Rattle.nob_node_site.specs.contracts.site.Site as Site
 
 -- what the threads of a node share and have, where the object may cross
 module _ (B : RattleType) (crossing : IsSend B) where
-  pub left_send : IsSend (Left.the_row B)
+  pub left_send : IsSend (LeftObject.the_row B)
   left_send = left.the_send B crossing
 
   pub site_sync : IsSync (Site.the_row B)

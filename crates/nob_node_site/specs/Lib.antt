@@ -4,4 +4,4 @@ pub use Rattle.nob_node_jobs.specs.Place
 pub use Rattle.nob_node_jobs.specs.Return
 pub use Rattle.nob_node_jobs.specs.Assigning
 pub use Rattle.nob_node_parts.specs.declared.object.Kept
-pub use Rattle.nob_node_parts.specs.declared.object.Left
+pub use Rattle.nob_node_parts.specs.declared.object.LeftObject

@@ -13,5 +13,5 @@ pub use making::site_of;
 pub use nob_node_jobs::{
     Desk, Errand, Gate, Hand, JobCalls, NodeJobs, OpenGate, Place, Placed, Remaining, Return, Shelf,
 };
-pub use nob_node_parts::{Calls, Inbox, Kept, Left, Outbox, Pulse};
-pub use site::{Parts, Site};
+pub use nob_node_parts::{Calls, Inbox, Kept, LeftObject, Outbox, Pulse};
+pub use site::{Site, SiteParts};

@@ -15,7 +15,7 @@ use nob_node_parts::{
 use std::sync::{Mutex, Wait};
 
 /// The parts of a site that are left when its node has ended.
-pub struct Parts<B: Object> {
+pub struct SiteParts<B: Object> {
     pub keeper: Keeper,
     pub outbox: Outbox,
     pub inboxes: Vec<Mutex<Inbox>>,
@@ -64,7 +64,7 @@ impl<B: Object> Site<B> {
     }
 
     /// Its parts, once all threads are done with it.
-    pub fn into_parts(self) -> Parts<B> {
+    pub fn into_parts(self) -> SiteParts<B> {
         let Site {
             keeper,
             start: _,
@@ -76,7 +76,7 @@ impl<B: Object> Site<B> {
             replies: _,
             idlers: _,
         } = self;
-        Parts {
+        SiteParts {
             keeper,
             outbox: transmitting.into_outbox(),
             inboxes: inboxes.into_inboxes(),

@@ -14,8 +14,8 @@ pub use beside::{Beside, Nobody};
 pub use layout::Layout;
 pub use meeting::{Company, Meeting};
 pub use nob_node::{
-    Gate, Hold, Keep, KeeperError, Left, Node, NodeError, OpenGate, PeerTally, Record, Report,
-    Returned, Summary,
+    Gate, Hold, Keep, KeeperError, LeftObject, Node, NodeError, OpenGate, PeerTally, Record,
+    Report, Returned, Summary,
 };
 pub use nodes::Nodes;
 pub use player::{Played, Player};

@@ -7,7 +7,7 @@ ghost use Rattle.nob_node.specs.Records.{IsRecorded, IsOwn};
 
 use crate::meeting::Company;
 use nob_dispatch_objects::Object;
-use nob_node::{App, Config, Left, Node, NodeError, Report};
+use nob_node::{App, Config, LeftObject, Node, NodeError, Report};
 use std::sync::Wait;
 
 /// What an application does at one of several nodes, whose objects are of a type of its own.
@@ -36,7 +36,7 @@ pub struct Played<O: Object, A: Drop> {
     /// The player.
     pub player: A,
     /// What its node leaves, or why it failed and the objects that were left.
-    pub left: Result<Report<O>, (NodeError, Vec<Left<O>>)>,
+    pub left: Result<Report<O>, (NodeError, Vec<LeftObject<O>>)>,
     pub ghost recorded: { ∥ IfOk left (λ report. IsRecorded report.«record») ∥₁ },
     pub ghost own: { ∥ IfOk left (λ report. IsOwn config report.«record») ∥₁ },
     pub ghost kept: { ∥ IfOk left (λ report. is_chain report.«record» ≡ keeps_all config.keep) ∥₁ },

@@ -9,7 +9,7 @@ use nob_ids::JobNo;
 use nob_model_types::{Event, Outcome, Refusal};
 use nob_pickle::Value;
 use nob_trace::Stamped;
-use nob_two_nodes::{Left, Played, Report};
+use nob_two_nodes::{LeftObject, Played, Report};
 use std::alloc::Global;
 
 /// What the nodes of a scene left.
@@ -19,7 +19,7 @@ pub(crate) struct Remains {
     pub(crate) chains: Vec<Chain>,
     /// The place of the one that has objects for the others, and these.
     pub(crate) owner: usize,
-    pub(crate) objects: Vec<Left<Thing>>,
+    pub(crate) objects: Vec<LeftObject<Thing>>,
 }
 
 // What nodes and their players left, of which one has objects for the others. `None` where one
@@ -172,7 +172,7 @@ fn is_refused(entry: &Stamped, refusal: Refusal) -> bool {
 }
 
 // How many calls counters counted.
-pub(crate) fn counted(objects: &[Left<Thing>]) -> u64 {
+pub(crate) fn counted(objects: &[LeftObject<Thing>]) -> u64 {
     let mut count: u64 = 0;
     for left in objects {
         if let Thing::Counter(calls) = &left.object {
