@@ -2,4 +2,4 @@ pub mod Fed
 pub mod Crossing
 pub mod Ended
 mod Pacing
-pub mod Probed
+mod Probed

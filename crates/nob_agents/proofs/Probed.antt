@@ -1,6 +1,6 @@
 -- What an agent that probes asks stays tied, where it asks one thing more.
-use Rattle.std.proofs.Common.{◌≡◌, ◌⊎◌, ℕ, zero, suc, List, [], ◌∷◌, Option, Some, None, Result, Ok, inl, inr, replicate, refl, sym, subst}
-use Rattle.std.specs.Prelude.{slice_get, slice_set}
+use Rattle.std.proofs.Common.{◌≡◌, ℕ, zero, suc, List, [], ◌∷◌, Option, Some, None, Result, Ok, inl, inr, refl}
+use Rattle.std.specs.Prelude.{slice_set}
 use Rattle.std.specs.List.{AllByRecursion}
 use Rattle.nob_model_types.specs.declared.event.Event.{Event}
 use Rattle.nob_model_types.specs.declared.event.Event.TheVariants as events
@@ -8,8 +8,7 @@ use Rattle.nob_model_types.specs.declared.answer.Answer.{Answer}
 use Rattle.nob_model_types.specs.declared.answer.Answer.TheVariants as answers
 use Rattle.nob_model_types.specs.declared.refusal.Refusal.{Refusal}
 use Rattle.nob_keeper.specs.Receipt.{Receipt}
-use Rattle.nob_agents.specs.Probing.{Probing, IsProbe, IsProbeOf, IsProbed, IsProbing, IsUntaken, AreTied, called_by}
-use Rattle.nob_agents.proofs.Fed.{one_of}
+use Rattle.nob_agents.specs.Probing.{IsProbe, IsProbing, IsUntaken, AreTied, called_by}
 
 -- what a receipt tells of a probe holds of more receipts
 more_of : (receipt : Receipt) (receipts : List Receipt) (one : Option ℕ) → IsUntaken receipts one → IsUntaken (receipt ∷ receipts) one
@@ -30,17 +29,6 @@ set_one P (y ∷ ys) (suc at) x is all = (all.0, set_one P ys at x is all.1)
 tied_after : (receipt : Receipt) (receipts : List Receipt) (untaken : List (Option ℕ)) (place : ℕ) (one : Option ℕ) → IsProbing receipts receipt.event → IsUntaken (receipt ∷ receipts) one → AreTied (record { receipts = receipts; untaken = untaken }) → AreTied (record { receipts = receipt ∷ receipts; untaken = slice_set untaken place one })
 tied_after receipt receipts untaken place one asked is tied = ((asked, tied.0), set_one (IsUntaken (receipt ∷ receipts)) untaken place one is (more_untaken receipt receipts untaken tied.1))
 
--- a reply was tried to be taken, and its probe is still untaken or isn't any more
-pub tied_after_taking : (receipt : Receipt) (receipts : List Receipt) (untaken : List (Option ℕ)) (place call : ℕ) (one : Option ℕ) → slice_get untaken place ≡ Some (Some call) → receipt.event ≡ events.TakeReply call → (one ≡ None) ⊎ (one ≡ Some call) → AreTied (record { receipts = receipts; untaken = untaken }) → AreTied (record { receipts = receipt ∷ receipts; untaken = slice_set untaken place one })
-tied_after_taking receipt receipts untaken place call one there event_is left tied =
-    let probed : IsProbed receipts call = one_of (IsUntaken receipts) untaken place (Some call) there tied.1 in
-    let asked : IsProbing receipts receipt.event = subst (λ (event : Event). IsProbing receipts event) (sym event_is) probed in
-    tied_after receipt receipts untaken place one asked (still left) tied
-  where
-    still : (one ≡ None) ⊎ (one ≡ Some call) → IsUntaken (receipt ∷ receipts) one
-    still (inl none) = subst (λ (o : Option ℕ). IsUntaken (receipt ∷ receipts) o) (sym none) tt
-    still (inr some) = subst (λ (o : Option ℕ). IsUntaken (receipt ∷ receipts) o) (sym some) (inr (one_of (IsUntaken receipts) untaken place (Some call) there tied.1))
-
 -- what the receipt of a probe says was made is a probe
 called_untaken : (receipt : Receipt) (receipts : List Receipt) (result : Result Answer Refusal) → receipt.result ≡ result → IsProbe receipt.event → IsUntaken (receipt ∷ receipts) (called_by result)
 called_untaken receipt receipts (Ok (answers.Called call)) is probe = inl (probe, is)
@@ -54,13 +42,3 @@ probe_asked receipts _ probe = absurd probe.1
 -- a peer was probed
 pub tied_after_probing : (receipt : Receipt) (receipts : List Receipt) (untaken : List (Option ℕ)) (place : ℕ) → IsProbe receipt.event → AreTied (record { receipts = receipts; untaken = untaken }) → AreTied (record { receipts = receipt ∷ receipts; untaken = slice_set untaken place (called_by receipt.result) })
 tied_after_probing receipt receipts untaken place probe tied = tied_after receipt receipts untaken place (called_by receipt.result) (probe_asked receipts receipt.event probe) (called_untaken receipt receipts receipt.result refl probe) tied
-
--- nothing is untaken of a list of nothing
-pub none_untaken : (receipts : List Receipt) (untaken : List (Option ℕ)) → AllByRecursion (λ one. one ≡ None) untaken → AllByRecursion (IsUntaken receipts) untaken
-none_untaken receipts [] none = tt
-none_untaken receipts (one ∷ others) none = (subst (IsUntaken receipts) (sym none.0) tt, none_untaken receipts others none.1)
-
--- there is nothing at the places of a row of nothing
-pub all_nothing : (count : ℕ) → AllByRecursion (λ (one : Option ℕ). one ≡ None) (replicate count None)
-all_nothing zero = tt
-all_nothing (suc count) = (refl, all_nothing count)

@@ -1,5 +1,5 @@
 -- What an agent that probes has asked of its space, and when it probes whom. In lists of receipts the newest stands FIRST.
-use Rattle.std.specs.Prelude.{◌≡◌, ◌⊎◌, ℕ, ◌+◌, ◌*◌, ◌-◌, ◌^◌, min, Bool, true, ◌&&◌, ◌||◌, nat_le, List, [], ◌∷◌, Option, Some, None, is_none, Result, Ok}
+use Rattle.std.specs.Prelude.{◌≡◌, ◌⊎◌, ℕ, ◌*◌, ◌-◌, ◌^◌, min, Bool, true, ◌&&◌, ◌||◌, nat_le, List, [], ◌∷◌, Option, Some, None, is_none, Result, Ok}
 use Rattle.std.specs.List.{AllByRecursion}
 use Rattle.nob_pickle.specs.declared.value.Value.TheVariants as values
 use Rattle.nob_model_types.specs.declared.event.Event.{Event}
