@@ -1,6 +1,6 @@
 //! How a node runs.
 
-ghost use Rattle.std.specs.Prelude.{◌≡◌, ◌↔◌, [], true, IfOk, MatchOption, MatchResult};
+ghost use Rattle.std.specs.Prelude.{◌≡◌, ◌↔◌, [], true, IfOk, MatchOption};
 ghost use Rattle.nob_keeper.specs.Accounts.{keeps_all};
 ghost use Rattle.nob_keeper.specs.Summaries as summaries;
 ghost use Rattle.nob_node.specs.Leaving as leaving;
@@ -215,8 +215,7 @@ fn close<B: Object>(
     ensures own { IfOk result (λ report. nodes.IsOwn config report.«record») }
     ensures kept { IfOk result (λ report. summaries.is_chain report.«record»
         ≡ keeps_all config.keep) }
-    ensures objects { MatchResult result (λ report. report.objects ≡ objects)
-        (λ failed. failed.1 ≡ objects) }
+    ensures objects { leaving.objects_in result ≡ objects.items }
 {
     match record_of(keeper, config.keep(), seats) {
         Ok(record) => {
