@@ -167,11 +167,11 @@ fn finish<B: Object, R: Wait>(
     };
     let Crew {
         hands,
-        prober,
+        probing,
         mut seats,
     } = crew;
-    if let Some(prober) = prober {
-        keep(&mut seats, prober.end());
+    if let Some(seat) = probing.end() {
+        keep(&mut seats, seat);
     }
     keep(&mut seats, seat);
     keep(&mut seats, carer.end());

@@ -12,7 +12,15 @@ use Rattle.nob_node_parts.proofs.object.LeftObject.TheSendSync as left
 use Rattle.nob_node_parts.specs.contracts.object.LeftObject as LeftObject
 use Rattle.nob_node_parts.proofs.Crossing.{start_sync, failure_sync, transmitting_sync, collecting_sync, inboxes_sync, replies_sync, idlers_sync}
 use Rattle.nob_node_site.specs.contracts.crew.Crew as Crew
+use Rattle.nob_node_site.specs.contracts.probing.Probing as Probing
 use Rattle.nob_node_site.specs.contracts.site.Site as Site
+
+-- what a node probes its peers with
+pub probing_send : IsSend Probing.the_row
+probing_send =
+    let T = Probing.the_type in
+    recorded_send (Struct (shape T)) T.D T.to T.to_one (struct_send (shape T)
+    (search (prober_send, crosses, sendable) depth 60 fits 20000, tt))
 
 -- what the threads of a node share and have, where the object may cross
 module _ (B : RattleType) (crossing : IsSend B) where
@@ -29,4 +37,4 @@ module _ (B : RattleType) (crossing : IsSend B) where
   crew_send =
       let T = Crew.the_type B in
       recorded_send (Struct (shape T)) T.D T.to T.to_one (struct_send (shape T)
-      (search (hand_of_node_send B crossing, crosses, sendable) depth 60 fits 20000, (search (prober_send, crosses, sendable) depth 60 fits 20000, (Vec-send _ seat_send, tt))))
+      (search (hand_of_node_send B crossing, crosses, sendable) depth 60 fits 20000, (probing_send, (Vec-send _ seat_send, tt))))

@@ -2,12 +2,13 @@
 
 ghost use denote.Param.Send.{IsSend, IsSync};
 
+use crate::probing::Probing;
 use crate::site::Site;
 use crate::threads::{send, serve, take};
 use nob_dispatch_objects::Object;
 use nob_keeper::Seat;
 use nob_node_jobs::{Gate, Hand};
-use nob_node_parts::{Kept, Prober};
+use nob_node_parts::Kept;
 use std::sync::Wait;
 use std::thread::{self, Threads};
 
@@ -15,8 +16,8 @@ use std::thread::{self, Threads};
 #[derive(Drop)]
 pub struct Crew<B: Object> {
     pub hands: Vec<Hand<Kept<B>>>,
-    // What probes, where the sessions' time ticks.
-    pub prober: Option<Prober>,
+    // What probes, in the thread that transmits again.
+    pub probing: Probing,
     // Room for the seats of all.
     pub seats: Vec<Seat>,
 }
@@ -31,11 +32,11 @@ pub fn run_crew<'x, B: Object + Send, R: Threads + Wait + Sync, G: Gate + Sync>(
 ) -> Crew<B> {
     let Crew {
         mut hands,
-        mut prober,
+        mut probing,
         seats,
     } = crew;
     let serving = hands.as_mut_slice();
-    let probing = &mut prober;
+    let asking = &mut probing;
     let handle = rt;
     thread::scope(
         thread::scope_env(),
@@ -57,7 +58,7 @@ pub fn run_crew<'x, B: Object + Send, R: Threads + Wait + Sync, G: Gate + Sync>(
                 }
             }
             if scope
-                .spawn(move || send(rt, site, probing, is_whole))
+                .spawn(move || send(rt, site, asking, is_whole))
                 .is_err()
             {
                 site.start.say(rt, false);
@@ -66,7 +67,7 @@ pub fn run_crew<'x, B: Object + Send, R: Threads + Wait + Sync, G: Gate + Sync>(
     );
     Crew {
         hands,
-        prober,
+        probing,
         seats,
     }
 }

@@ -4,6 +4,7 @@
 mod config;
 mod crew;
 mod making;
+mod probing;
 mod site;
 mod threads;
 
@@ -14,4 +15,5 @@ pub use nob_node_jobs::{
     Desk, Errand, Gate, Hand, JobCalls, NodeJobs, OpenGate, Place, Placed, Remaining, Return, Shelf,
 };
 pub use nob_node_parts::{Calls, Inbox, Kept, LeftObject, Outbox, Pulse};
+pub use probing::Probing;
 pub use site::{Site, SiteParts};

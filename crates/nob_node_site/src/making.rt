@@ -9,6 +9,7 @@ ghost use Rattle.nob_dispatch_lanes.specs.Lanes.{all_given, all_got};
 
 use crate::config::{Config, Ends};
 use crate::crew::Crew;
+use crate::probing::Probing;
 use crate::site::Site;
 use nob_dispatch_lanes::{LanePut, LaneTake, lane};
 use nob_dispatch_objects::{Agent, Object};
@@ -65,10 +66,10 @@ fn crew_of<B: Object>(
     let ways = ways_of(alloc, keeper, ends, &mut inboxes)?;
     let sender = Sender::new(keeper.seat(), ways, config.pause, config.tick_every);
     let (desk, hands) = pool_of(alloc, keeper, config.workers)?;
-    let prober = prober_of(keeper, config);
+    let probing = Probing::new(prober_of(keeper, config));
     let crew = Crew {
         hands,
-        prober,
+        probing,
         seats,
     };
     Some((Outbox::new(alloc, sender), inboxes, desk, crew))

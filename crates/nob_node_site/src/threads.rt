@@ -1,10 +1,11 @@
 //! What each thread of a node does.
 
+use crate::probing::Probing;
 use crate::site::Site;
 use nob_dispatch_objects::Object;
-use nob_keeper::{KeeperError, Wake};
+use nob_keeper::Wake;
 use nob_node_jobs::{Gate, Hand, carry_out};
-use nob_node_parts::{Kept, Pace, Prober, Pulse, Sleep, Turn};
+use nob_node_parts::{Kept, Pace, Pulse, Sleep};
 use std::sync::Wait;
 
 /// How many times running the thread that transmits again what is out sleeps shortly, while nothing
@@ -47,12 +48,7 @@ pub fn serve<B: Object, R: Wait, G: Gate>(
 /// does what others left to transmit, to claim, to settle, to clean and to withdraw, until the links are
 /// ended. While nothing is out it probes where it has what does, and sleeps at the keeper where it
 /// hasn't.
-pub fn send<B: Object, R: Wait>(
-    rt: &R,
-    site: &Site<B>,
-    prober: &mut Option<Prober>,
-    is_whole: bool,
-) {
+pub fn send<B: Object, R: Wait>(rt: &R, site: &Site<B>, probing: &mut Probing, is_whole: bool) {
     site.start.say(rt, is_whole);
     let mut standstill = Standstill::new();
     let mut pace = Pace::new(MANY_ENTRIES.0, MANY_ENTRIES.1);
@@ -67,9 +63,7 @@ pub fn send<B: Object, R: Wait>(
         let is_long = pace.is_much_at(dues.place);
         if pulse != Pulse::Done {
             site.transmitting.sleep(rt, sleep_of(is_short, is_long));
-        } else if let Some(prober) = prober {
-            probe(rt, site, prober);
-        } else if !is_woken(rt, site, dues.place) {
+        } else if !probing.turn(rt, site) && !is_woken(rt, site, dues.place) {
             return;
         }
     }
@@ -111,16 +105,6 @@ impl Standstill {
         let more = if pulse == Pulse::Busy { 1 } else { 0 };
         self.place = place.saturating_add(more);
         self.turns > 0 && self.turns < SHORT_RESTS
-    }
-}
-
-// A turn of what probes, and a rest where it asked nothing. Where the trace is full the node has
-// failed.
-fn probe<B: Object, R: Wait>(rt: &R, site: &Site<B>, prober: &mut Prober) {
-    match prober.turn(rt, &site.keeper) {
-        Ok(Turn::Did(_)) => {}
-        Err(KeeperError::Stamp) => site.fail(rt),
-        _ => site.transmitting.watch(rt),
     }
 }
 

@@ -1,8 +1,7 @@
 use denote.Param.Send.{sendable}
 use Rattle.std.proofs.Crossing.{crosses}
-use Rattle.nob_agents.proofs.Crossing.{prober_send}
 use Rattle.nob_node_jobs.proofs.Crossing.{hand_of_node_send}
-use Rattle.nob_node_site.proofs.Crossing.{site_sync}
+use Rattle.nob_node_site.proofs.Crossing.{site_sync, probing_send}
 use Rattle.nob_node_site.proofs.crew.fn.run_crew.scope.Goals as goal
 
 -- a thread that takes shares the site
@@ -15,4 +14,4 @@ spawn-requires-in-loop-hand-send-F g c κs within = search (site_sync, hand_of_n
 
 -- the thread that transmits again shares the site, and has what probes
 pub spawn-requires-2-send-F : goal.spawn-requires-2-send-F
-spawn-requires-2-send-F g c κs within = search (site_sync, prober_send, sendable, crosses) depth 60 fits 20000
+spawn-requires-2-send-F g c κs within = search (site_sync, probing_send, sendable, crosses) depth 60 fits 20000
