@@ -16,11 +16,11 @@ use Rattle.nob_node_site.specs.contracts.probing.Probing as Probing
 use Rattle.nob_node_site.specs.contracts.site.Site as Site
 
 -- what a node probes its peers with
+probing_field_send : IsSend (Probing.the_field).row
+probing_field_send = struct_send (shape Probing.the_type) (search (prober_send, crosses, sendable) depth 60 fits 20000, tt)
+
 pub probing_send : IsSend Probing.the_row
-probing_send =
-    let T = Probing.the_type in
-    recorded_send (Struct (shape T)) T.D T.to T.to_one (struct_send (shape T)
-    (search (prober_send, crosses, sendable) depth 60 fits 20000, tt))
+probing_send = let T = Probing.the_type in recorded_send (Struct (shape T)) T.D T.to T.to_one probing_field_send
 
 -- what the threads of a node share and have, where the object may cross
 module _ (B : RattleType) (crossing : IsSend B) where
@@ -37,4 +37,4 @@ module _ (B : RattleType) (crossing : IsSend B) where
   crew_send =
       let T = Crew.the_type B in
       recorded_send (Struct (shape T)) T.D T.to T.to_one (struct_send (shape T)
-      (search (hand_of_node_send B crossing, crosses, sendable) depth 60 fits 20000, (probing_send, (Vec-send _ seat_send, tt))))
+      (search (hand_of_node_send B crossing, crosses, sendable) depth 60 fits 20000, (probing_field_send, (Vec-send _ seat_send, tt))))
