@@ -1,3 +1,4 @@
 pub mod Crossing
+mod Hands
 mod Holdings
 mod Shelved

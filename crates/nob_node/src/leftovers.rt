@@ -90,7 +90,8 @@ fn end_hands<B: Object, R: Wait>(
     if hands.is_empty() {
         return;
     }
-    let end = end_hand(rt, hands.remove(0), seats, shelf);
+    let hand = hands.remove(0);
+    let end = end_hand(rt, hand, seats, shelf);
     make_room(rt, ends);
     ends.push_reserved(end);
     end_hands(rt, hands, seats, shelf, ends);
