@@ -116,7 +116,8 @@ struct Sleepers {
     roused: u8,
     left: u8,
     has_some: bool,
-    is_looked_for: bool,
+    // Whether somebody looks, or may soon: it depends on what was found before, so either may be.
+    may_look: bool,
     // How often the looker looks yet, and where each of both is.
     looks: u8,
     places: [u8; 2],
@@ -148,7 +149,7 @@ fn answer(mut all: Sleepers) -> Option<Sleepers> {
             all.answered += 1;
             all.places[NODE] = 1;
         }
-        1 if all.is_looked_for => all.places[NODE] = 2,
+        1 if all.may_look => all.places[NODE] = 2,
         1 => {
             all.roused += 1;
             all.places[NODE] = 0;
@@ -172,11 +173,11 @@ fn look(mut all: Sleepers) -> Option<Sleepers> {
     const LOOKER: usize = 1;
     match all.places[LOOKER] {
         0 => {
-            all.is_looked_for = true;
+            all.may_look = true;
             all.places[LOOKER] = 1;
         }
         1 if all.looks == 0 => {
-            all.is_looked_for = false;
+            all.may_look = false;
             all.places[LOOKER] = 3;
         }
         1 => {
@@ -191,12 +192,12 @@ fn look(mut all: Sleepers) -> Option<Sleepers> {
 
 #[test]
 fn whoever_has_an_answer_is_roused_before_the_node_sleeps() {
-    for looks in 0..6 {
+    for (looks, may_look) in (0..6).flat_map(|looks| [(looks, false), (looks, true)]) {
         let step = |all: &Sleepers, thread: usize| match thread {
             0 => answer(all.clone()),
             _ => look(all.clone()),
         };
-        let first = Sleepers { looks, ..Sleepers::default() };
+        let first = Sleepers { looks, may_look, ..Sleepers::default() };
         let states = explore(first, 2, step, |all| {
             assert_eq!((all.roused, all.left), (ANSWERS, 0), "a thread sleeps for ever");
         });

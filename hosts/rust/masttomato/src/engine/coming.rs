@@ -202,6 +202,7 @@ impl Engine {
             ItemKind::Call { call, target, .. } => {
                 link.calls_acted_on += 1;
                 link.unclaimed += 1;
+                self.unclaimed += 1;
                 link.asked.insert(call, false);
                 // Whoever may call an object that isn't an agent is listed for it until its calls were acted on.
                 if target != 0 && !self.space.lists(target, peer) {
@@ -220,6 +221,8 @@ impl Engine {
                     link.unsettled.insert(item, call);
                 }
             }
+            // It may be a call.
+            ItemKind::Other => self.unclaimed += 1,
             _ => {}
         }
     }

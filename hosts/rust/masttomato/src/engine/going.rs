@@ -187,6 +187,9 @@ impl Engine {
 
     // The entries go to their sinks before the bytes leave: those of the trace, and those of the chain, with its seals.
     pub(super) fn flush(&mut self) {
+        if !self.space.is_recorded() {
+            return;
+        }
         let lines = self.space.take_lines();
         self.counts.trace_faults += u64::from(!is_put(&mut self.sink, &lines));
         let lines = self.space.take_chain_lines();

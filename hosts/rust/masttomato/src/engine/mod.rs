@@ -417,6 +417,8 @@ pub struct Engine {
     has_stuck: bool,
     // Whether a session is to be opened, or a peer to be called, since a life began.
     has_renewals: bool,
+    // How many calls of all peers were acted on and not claimed, at most: those that are lost count until timers are looked at.
+    unclaimed: u64,
     look_at: Duration,
     calls: ByNumber<CallNo, (Ticket, SpaceId)>,
     jobs: ByNumber<JobNo, Claimed>,
@@ -523,6 +525,7 @@ impl Engine {
             has_held: false,
             has_stuck: false,
             has_renewals: false,
+            unclaimed: 0,
             look_at: now,
             calls: ByNumber::default(),
             jobs: ByNumber::default(),
@@ -1196,7 +1199,7 @@ impl Engine {
             }
         }
         self.jobs.remove(&finish.job);
-        self.stirred.is_finished(lent);
+        self.stirred.is_finished(lent, self.unclaimed > 0);
         self.counts.jobs_finished += 1;
         true
     }

@@ -49,9 +49,9 @@ impl Stirred {
         }
     }
 
-    /// A job was finished: what it was lent is given back, and its object may have further ones.
-    pub(super) fn is_finished(&mut self, lent: Lent) {
-        self.claim = true;
+    /// A job was finished: what it was lent is given back, and its object may have further ones, if there are any.
+    pub(super) fn is_finished(&mut self, lent: Lent, has_unclaimed: bool) {
+        self.claim |= has_unclaimed;
         self.clean |= lent.others;
         self.withdraw |= lent.own || self.lent;
     }
@@ -158,6 +158,8 @@ impl Engine {
                 self.tick(*peer, now);
             }
             self.stirred.all();
+            let counts = self.space.counts();
+            self.unclaimed = counts.waiting + counts.ready;
             self.look_at = now + LOOK.min(self.settings.give_up_after / u32::from(TICKS));
         }
         loop {
@@ -274,6 +276,8 @@ impl Engine {
             }
         };
         self.counts.jobs_claimed += 1;
+        self.unclaimed = self.unclaimed.saturating_sub(1);
+        self.stirred.claim = self.unclaimed > 0;
         let references = job.value.references();
         let is_own = |reference: &Reference| reference.owner == self.id();
         let own = references.iter().any(is_own);

@@ -9,6 +9,7 @@ use crate::engine::{Ticket, Why};
 use crate::interface::Packed;
 use crate::pass::Pass;
 use crate::space::{CallNo, Reason, Reference, SpaceId, Value};
+use std::cell::Cell;
 use std::fmt;
 use std::future::Future;
 use std::hint;
@@ -157,6 +158,9 @@ impl std::error::Error for CallError {}
 
 /// So many times it is looked for an answer between two looks at the time.
 const LOOKS_A_TIME: usize = 32;
+
+/// Who rouses others while it looks does so for so many times as long at most.
+const MOST_LOOKS: u32 = 8;
 
 /// What a call came to, before it is known of which type the answer is to be.
 pub(crate) type Completed = Result<Packed, CallError>;
@@ -471,22 +475,24 @@ impl<T: Pass> Call<T> {
     }
 
     // Looks for a while whether the answer has come, if nobody else does: others would only take the
-    // processors from those who bring it. Meanwhile it rouses others whose answers have come.
+    // processors from those who bring it. Meanwhile it rouses others whose answers have come; the more there are, the longer it
+    // looks, since then its own is likely to come soon as well.
     fn look(&self) {
         let is_done = || self.state.is_done.load(Ordering::Acquire);
         if is_done() {
             return;
         }
         let Some(looks) = self.shared.begin_look() else { return };
-        let since = Instant::now();
+        let (since, times) = (Instant::now(), Cell::new(1));
         let is_found = || {
             hint::spin_loop();
             if self.shared.has_asleep() {
                 self.shared.rouse_asleep();
+                times.set(MOST_LOOKS.min(times.get() + 1));
             }
             is_done()
         };
-        while !(0..LOOKS_A_TIME).any(|_| is_found()) && since.elapsed() < looks {}
+        while !(0..LOOKS_A_TIME).any(|_| is_found()) && since.elapsed() < looks * times.get() {}
         self.shared.end_look(is_done());
     }
 

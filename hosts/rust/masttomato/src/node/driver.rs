@@ -81,9 +81,10 @@ impl Driver {
         ask(&mut self.core.borrow_mut())
     }
 
-    fn take_commands(&self) {
+    // Whether there were any.
+    fn take_commands(&self) -> bool {
         if !self.shared.has_commands() {
-            return;
+            return false;
         }
         let mut commands = self.commands.take();
         self.shared.take(&mut commands);
@@ -91,16 +92,29 @@ impl Driver {
             self.core.borrow_mut().command(command);
         }
         self.commands.replace(commands);
+        true
     }
 
     /// Does what there is to do: whether there is more to do at once.
     pub(crate) fn turn(&self) -> bool {
         let now = self.now();
         self.take_commands();
-        for peer in std::mem::take(&mut self.core.borrow_mut().opened) {
+        for peer in self.core.borrow_mut().opened.drain(..) {
             self.net.borrow_mut().dial_soon(peer, now);
         }
         self.net.borrow_mut().read(&mut self.core.borrow_mut().engine, now);
+        self.work(now);
+        // What was asked for meanwhile goes with the rest; what else it brings is for the next turn.
+        let was_asked = self.take_commands();
+        self.core.borrow_mut().engine.fill(now);
+        self.write(now);
+        self.leave(now);
+        let has_more = self.core.borrow().engine.has_more(now) || self.net.borrow().has_more();
+        was_asked || has_more || self.shared.has_commands()
+    }
+
+    // Does all that the engine has to do, and the methods that run on this thread.
+    fn work(&self, now: Duration) {
         loop {
             self.core.borrow_mut().work(now);
             let mut did = false;
@@ -111,14 +125,9 @@ impl Driver {
                 did = true;
             }
             if !did {
-                break;
+                return;
             }
         }
-        self.core.borrow_mut().engine.fill(now);
-        self.write(now);
-        self.leave(now);
-        let has_more = self.core.borrow().engine.has_more(now) || self.net.borrow().has_more();
-        has_more || self.shared.has_commands()
     }
 
     // By itself, so that nothing is borrowed while the step is made.
@@ -144,7 +153,7 @@ impl Driver {
 
     fn write(&self, now: Duration) {
         let (mut net, mut core) = (self.net.borrow_mut(), self.core.borrow_mut());
-        for peer in std::mem::take(&mut core.silent) {
+        while let Some(peer) = core.silent.pop() {
             net.drop_link(peer, &mut core.engine, now);
         }
         net.write(&mut core.engine);

@@ -1,8 +1,10 @@
 //! A node's connections: who is connected to, who connects, and what goes over them.
 
+mod by_peer;
 #[cfg(test)]
 mod tests;
 
+use self::by_peer::ByPeer;
 use super::door::{Came, Door};
 use super::peers::Line;
 use super::seal::{Wire, flaw_in, is_for_later};
@@ -10,8 +12,8 @@ use super::spans;
 use crate::engine::{Engine, Flaw, HELLO, Hello, TurnedAway, Why};
 use crate::space::SpaceId;
 use mio::net::{TcpListener, TcpStream};
-use mio::{Events, Interest, Poll, Token};
-use std::collections::{BTreeMap, HashMap};
+use mio::{Events, Interest, Poll, Registry, Token};
+use std::collections::HashMap;
 use std::io::{self, ErrorKind, Read, Write};
 use std::net::{Shutdown, SocketAddr};
 use std::time::{Duration, Instant};
@@ -30,6 +32,14 @@ const LONGEST_WAIT: Duration = Duration::from_secs(5);
 const SHUNNED: Duration = Duration::from_secs(1);
 /// So much is read of a peer in one turn.
 const PIECE: usize = 64 * 1024;
+/// So often the system is asked what has come also where there is always something to do: of who connects, and of connections that can
+/// be written again, it alone knows.
+const ASKS: Duration = Duration::from_millis(1);
+/// Where looking found something so many times, and it was never waited for, the system needn't watch the connections. That
+/// would cost it a little for each piece that comes.
+const FOUND: u32 = 64;
+/// So many connections are looked at one by one; of more the system says which of them something came over.
+const FEW: usize = 3;
 /// How long a node that ends waits for its peers to end their connections, too.
 const LINGERS: Duration = Duration::from_millis(200);
 
@@ -40,6 +50,9 @@ const LAST_WORDS: usize = 64 * 1024 * 1024;
 
 struct Link {
     wire: Wire,
+    token: Token,
+    /// Whether the system says when something comes or can be written again.
+    is_watched: bool,
     is_readable: bool,
     is_writable: bool,
     /// Where nothing can be written any more, how much of what came may still be heard.
@@ -48,6 +61,26 @@ struct Link {
 }
 
 impl Link {
+    // Has the system watch the connection: whether it does.
+    fn watch(&mut self, registry: &Registry) -> bool {
+        if !self.is_watched {
+            let both = Interest::READABLE | Interest::WRITABLE;
+            // What came before is said as well.
+            self.is_watched = registry.register(&mut self.wire.stream, self.token, both).is_ok();
+        }
+        if !self.is_watched {
+            self.breaks();
+        }
+        self.is_watched
+    }
+
+    // From now on it is looked whether something came. Of one that can't be written the system is to say when it can.
+    fn unwatch(&mut self, registry: &Registry) {
+        if self.is_watched && self.is_writable {
+            self.is_watched = registry.deregister(&mut self.wire.stream).is_err();
+        }
+    }
+
     // Nothing can be written any more. What came is heard all the same, since it may end with a bye.
     fn breaks(&mut self) {
         (self.is_readable, self.is_writable) = (true, false);
@@ -106,7 +139,7 @@ pub(crate) struct Net {
     door: Option<Door>,
     turned_away: (u64, Option<TurnedAway>),
     hello: Hello,
-    links: BTreeMap<SpaceId, Link>,
+    links: ByPeer<Link>,
     tokens: HashMap<usize, SpaceId>,
     pending: HashMap<usize, Pending>,
     dials: Vec<Dial>,
@@ -114,6 +147,10 @@ pub(crate) struct Net {
     next_token: usize,
     piece: Vec<u8>,
     jitter: u64,
+    /// When the system was asked what has come, if that isn't long ago.
+    asked: Option<Duration>,
+    /// How often something was found by looking since it was waited for.
+    found: u32,
 }
 
 impl Net {
@@ -143,7 +180,7 @@ impl Net {
             door,
             turned_away: (0, None),
             hello,
-            links: BTreeMap::new(),
+            links: ByPeer::new(),
             tokens: HashMap::new(),
             pending: HashMap::new(),
             dials: dialed.into_iter().map(dial).collect(),
@@ -151,6 +188,8 @@ impl Net {
             next_token: FIRST,
             piece: vec![0; PIECE],
             jitter: hello.life.process | 1,
+            asked: None,
+            found: 0,
         })
     }
 
@@ -167,7 +206,7 @@ impl Net {
         }
         let end = Instant::now() + LINGERS;
         loop {
-            self.links.retain(|_, link| !has_ended(&mut link.wire.stream, &mut self.piece));
+            self.links.retain(|link| !has_ended(&mut link.wire.stream, &mut self.piece));
             let left = end.saturating_duration_since(Instant::now());
             if self.links.is_empty() || left.is_zero() {
                 return self.links.clear();
@@ -185,6 +224,28 @@ impl Net {
 
     /// Sleeps until something comes, or for so long.
     pub(crate) fn sleep(&mut self, limit: Duration) {
+        (self.asked, self.found) = (None, 0);
+        let mut all_are_watched = true;
+        for link in self.links.values_mut() {
+            all_are_watched &= link.watch(self.poll.registry());
+        }
+        self.ask(if all_are_watched { limit } else { Duration::ZERO });
+    }
+
+    // Asks the system what has come, where it wasn't asked for a while.
+    fn ask_again(&mut self, now: Duration) {
+        let asked = *self.asked.get_or_insert(now);
+        if now.saturating_sub(asked) >= ASKS {
+            self.asked = Some(now);
+            self.ask(Duration::ZERO);
+            for link in self.links.values_mut().filter(|link| !link.is_watched) {
+                link.is_readable = true;
+            }
+        }
+    }
+
+    // Has the system say what has come, or waits for that for so long.
+    fn ask(&mut self, limit: Duration) {
         // A poll that is interrupted is one that nothing came to.
         let _slept = self.poll.poll(&mut self.events, Some(limit));
         for event in &self.events {
@@ -192,7 +253,7 @@ impl Net {
             if event.token() == LISTENER {
                 self.accepts = true;
             }
-            let Some(link) = self.tokens.get(&token).and_then(|peer| self.links.get_mut(peer))
+            let Some(link) = self.tokens.get(&token).and_then(|peer| self.links.get_mut(*peer))
             else {
                 continue;
             };
@@ -203,16 +264,29 @@ impl Net {
 
     /// Takes what came over connections, whether or not the system has said so: whether anything did.
     pub(crate) fn look(&mut self, engine: &mut Engine, now: Duration) -> bool {
-        if self.links.len() > 3 || !self.pending.is_empty() {
+        if self.links.len() > FEW || !self.pending.is_empty() {
             self.sleep(Duration::ZERO);
             return self.read(engine, now);
         }
         let mut did = false;
         for place in 0..self.links.len() {
-            let peer = self.links.keys().nth(place).copied();
+            let peer = self.links.peer_at(place);
             did |= peer.is_some_and(|peer| self.read_from(peer, engine, now));
         }
+        if did {
+            self.finds();
+        }
         did
+    }
+
+    // Something was found by looking, once more.
+    fn finds(&mut self) {
+        self.found = self.found.wrapping_add(1);
+        if self.found.is_multiple_of(FOUND) {
+            for link in self.links.values_mut() {
+                link.unwatch(self.poll.registry());
+            }
+        }
     }
 
     /// Whether more has come than was read.
@@ -222,25 +296,31 @@ impl Net {
 
     /// Takes what came: whether anything did.
     pub(crate) fn read(&mut self, engine: &mut Engine, now: Duration) -> bool {
+        self.ask_again(now);
         let mut did = self.accept(now);
         did |= self.let_in(engine, now);
         self.dial(now);
         did |= self.greet(engine, now);
-        let (count, last) = std::mem::take(&mut self.turned_away);
-        engine.turned_away(count, last);
-        if !self.links.values().any(|link| link.is_readable) {
-            return did;
+        if self.turned_away.0 > 0 {
+            let (count, last) = std::mem::take(&mut self.turned_away);
+            engine.turned_away(count, last);
         }
-        let readable = self.links.iter().filter(|(_, link)| link.is_readable);
-        let readable: Vec<SpaceId> = readable.map(|(peer, _)| *peer).collect();
-        for peer in readable {
+        let mut last = None;
+        while let Some(peer) = self.readable_behind(last) {
             did |= self.read_from(peer, engine, now);
+            last = Some(peer);
         }
         did
     }
 
+    // The first peer behind this one, or of all, from whom something may have come.
+    fn readable_behind(&self, last: Option<SpaceId>) -> Option<SpaceId> {
+        let mut readable = self.links.iter().filter(|(_, link)| link.is_readable);
+        readable.find(|(peer, _)| last.is_none_or(|last| *peer > last)).map(|(peer, _)| peer)
+    }
+
     fn read_from(&mut self, peer: SpaceId, engine: &mut Engine, now: Duration) -> bool {
-        let Some(link) = self.links.get_mut(&peer) else { return false };
+        let Some(link) = self.links.get_mut(peer) else { return false };
         match link.wire.read(&mut self.piece) {
             Ok(0) => self.drop_link(peer, engine, now),
             Ok(count) => {
@@ -266,12 +346,15 @@ impl Net {
 
     /// Writes what is to be written. A connection that takes nothing any more goes once all that came over it was heard.
     pub(crate) fn write(&mut self, engine: &mut Engine) {
-        for (peer, link) in &mut self.links {
-            let out = engine.output(*peer);
+        for (peer, link) in self.links.iter_mut() {
+            let out = engine.output(peer);
             while !out.is_empty() && link.is_writable {
                 match link.wire.write(out.left()) {
                     Ok(count) => out.advance(count),
-                    Err(error) if error.kind() == ErrorKind::WouldBlock => link.is_writable = false,
+                    Err(error) if error.kind() == ErrorKind::WouldBlock => {
+                        link.is_writable = false;
+                        link.watch(self.poll.registry());
+                    }
                     Err(error) if error.kind() == ErrorKind::Interrupted => {}
                     Err(_) => link.breaks(),
                 }
@@ -281,8 +364,8 @@ impl Net {
 
     /// A connection goes; whoever opened it opens it again later.
     pub(crate) fn drop_link(&mut self, peer: SpaceId, engine: &mut Engine, now: Duration) {
-        let Some(link) = self.links.remove(&peer) else { return };
-        self.tokens.retain(|_, known| *known != peer);
+        let Some(link) = self.links.remove(peer) else { return };
+        self.tokens.remove(&link.token.0);
         engine.disconnected(peer, now);
         if let Some(dial) = link.dial {
             self.wait_to_dial(dial, now);
@@ -448,7 +531,7 @@ impl Net {
         let judged = peer.and_then(|peer| self.judge(token, &peer, now).map(|()| peer));
         let connected = judged.and_then(|peer| {
             engine.may_connect(peer.space, peer.life)?;
-            if self.links.contains_key(&peer.space) {
+            if self.links.has(peer.space) {
                 self.drop_link(peer.space, engine, now);
             }
             engine.connected(peer.space, peer.life, now).map(|()| peer.space)
@@ -475,10 +558,12 @@ impl Net {
             dial.wait = FIRST_WAIT;
         }
         let Pending { wire, dial, .. } = pending;
-        let (is_readable, is_writable) = (true, true);
-        let link = Link { wire, is_readable, is_writable, last_words: None, dial };
-        self.links.insert(space, link);
         self.tokens.insert(token, space);
+        let token = Token(token);
+        let (is_watched, is_readable, is_writable) = (true, true, true);
+        let link =
+            Link { wire, token, is_watched, is_readable, is_writable, last_words: None, dial };
+        self.links.insert(space, link);
     }
 
     // Either end refused the other one's hello.

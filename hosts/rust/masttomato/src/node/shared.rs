@@ -178,14 +178,16 @@ impl Shared {
         }
     }
 
-    /// Leaves threads that sleep to be roused by who looks, if anybody does: whether it was left to that.
+    /// Leaves threads that sleep to be roused by who looks, or is about to since its answer came together with theirs: whether it
+    /// was left to that.
     pub(crate) fn leave_asleep(&self, all: &mut Vec<Arc<CallState>>) -> bool {
-        let is_looked_for = self.lookers.0.is_looked_for.load(Relaxed);
-        if is_looked_for {
+        let may_look = !self.looks.is_zero() && self.lookers.0.rests.load(Relaxed) == 0;
+        let leaves = may_look || self.lookers.0.is_looked_for.load(Relaxed);
+        if leaves {
             unpoisoned(self.left.0.all.lock()).append(all);
             self.left.0.has_some.store(true, SeqCst);
         }
-        is_looked_for
+        leaves
     }
 
     /// Whether there are threads to be roused.

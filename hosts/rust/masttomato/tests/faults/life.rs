@@ -1,12 +1,15 @@
 //! What a process does until it is killed, or told to end: it makes, calls, passes, holds and drops what
 //! others have and what it has, and sees that what it is answered is right.
 
+use crate::bearer::*;
 use crate::sealed::{self, WORLD};
 use crate::things::*;
 use crate::{Numbers, SPACES};
 use masttomato::engine::{Files, World};
-use masttomato::space::{Bounds, SegmentSize};
-use masttomato::{Builder, CallError, Fault, Node, Peers, Remote, Session, Why};
+use masttomato::space::{Bounds, Refusal, SegmentSize, SpaceError, SpaceId};
+use masttomato::{
+    Builder, CallError, Changes, Fault, Node, NodeError, Peers, Remote, Run, Session, Why,
+};
 use std::path::{Path, PathBuf};
 use std::sync::Arc;
 use std::sync::atomic::{AtomicBool, AtomicU64, Ordering::SeqCst};
@@ -109,6 +112,20 @@ fn is_excused(error: &CallError) -> bool {
     }
 }
 
+/// What a process has while it lives.
+struct Living {
+    node: Node,
+    shelf: Remote<dyn Shelf>,
+    bearer: Remote<dyn Bearer>,
+    own: Vec<Own>,
+    others: Vec<Remote<dyn Counter>>,
+    alive: Arc<AtomicU64>,
+    changes: Changes,
+    /// Peers whose sessions have closed, and are to be opened anew.
+    shut: Vec<SpaceId>,
+    numbers: Numbers,
+}
+
 /// The life of a process: its number, its seed, and the folder of its world.
 pub fn live(number: u16, seed: u64, folder: &Path) {
     let text = fs::read_to_string(folder.join("world.peers")).expect("the places");
@@ -116,6 +133,7 @@ pub fn live(number: u16, seed: u64, folder: &Path) {
         text.lines().take(usize::from(number) - 1).map(|line| format!("{line}\n")).collect();
     let mut numbers = Numbers::new(seed);
     let node = node(number, lower.parse().expect("the places"), folder, &mut numbers);
+    let changes = node.changes().expect("a node");
     let address = node.address().expect("it listens").to_string();
     let file = address_file(folder, number);
     fs::write(file.with_extension("new"), address).expect("a file");
@@ -127,14 +145,18 @@ pub fn live(number: u16, seed: u64, folder: &Path) {
         let _ended = io::copy(&mut io::stdin(), &mut io::sink());
         over.store(true, SeqCst);
     });
-    let Ok(shelf) = node.lookup::<dyn Shelf>(id(1), "shelf").wait_for(3 * GIVE_UP) else { return };
-    let (mut own, mut others): (Vec<Own>, Vec<Remote<dyn Counter>>) = (Vec::new(), Vec::new());
-    let alive = Arc::new(AtomicU64::new(0));
-    while !is_over.load(SeqCst) && !matches!(node.session(id(1)), Session::Closed(_)) {
-        thread::sleep(Duration::from_millis(numbers.below(5)));
-        deed(&node, &shelf, &mut own, &mut others, &alive, &mut numbers);
+    let limit = 3 * GIVE_UP;
+    let Ok(shelf) = node.lookup::<dyn Shelf>(id(1), "shelf").wait_for(limit) else { return };
+    let Ok(bearer) = node.lookup::<dyn Bearer>(id(1), "bearer").wait_for(limit) else { return };
+    let (own, others, shut) = (Vec::new(), Vec::new(), Vec::new());
+    let alive = Arc::default();
+    let mut living = Living { node, shelf, bearer, own, others, alive, changes, shut, numbers };
+    while !is_over.load(SeqCst) && !matches!(living.node.session(id(1)), Session::Closed(_)) {
+        thread::sleep(Duration::from_millis(living.numbers.below(5)));
+        living.deed();
+        living.open_again();
     }
-    each_call_ends(&node);
+    each_call_ends(&living.node);
 }
 
 // Each call is answered, or ends with its session: none stays open, whoever is stopped or gone.
@@ -146,57 +168,160 @@ fn each_call_ends(node: &Node) {
     }
 }
 
-fn deed(
-    node: &Node,
-    shelf: &Remote<dyn Shelf>,
-    own: &mut Vec<Own>,
-    others: &mut Vec<Remote<dyn Counter>>,
-    alive: &Arc<AtomicU64>,
-    numbers: &mut Numbers,
-) {
-    let place = numbers.below(1 << 16) as usize;
-    let limit = Duration::from_millis(1 + numbers.below(2_000));
-    match numbers.below(20) {
-        0..2 if own.len() < 12 => {
-            let start = numbers.below(100) as i64;
-            if let Ok(counter) = shelf.make(start).or_cancel().wait_for(limit) {
-                own.push(Own { counter, known: start, unknown: 0 });
-            }
-        }
-        // One of its own is for all; or one that it had to itself is, from now on.
-        2 => others.push(node.export::<dyn Counter>(Tally::new(alive)).expect("room")),
-        3..6 if !others.is_empty() => {
-            let other = others[place % others.len()].clone();
-            let _put = shelf.put(other).wait_for(limit).map_err(|error| is_excused(&error));
-        }
-        6..8 => match shelf.take().wait_for(limit) {
-            Ok(taken) => others.extend(taken),
-            Err(error) => drop(is_excused(&error)),
-        },
-        8 if !own.is_empty() => drop(own.swap_remove(place % own.len())),
-        9 if !others.is_empty() => drop(others.swap_remove(place % others.len())),
-        10..12 if !others.is_empty() => {
-            let other = others[place % others.len()].clone();
-            if let Ok(Err(text)) = shelf.add_through(other, 1).or_cancel().wait_for(limit) {
-                assert!(!text.contains("panic"), "{text}");
-            }
-        }
-        12..14 if !others.is_empty() => {
-            let place = place % others.len();
-            if let Err(error) = others[place].add(1).wait_for(limit)
-                && error != CallError::TimedOut
-                && !is_excused(&error)
-            {
-                others.swap_remove(place);
-            }
-        }
-        _ if !own.is_empty() => {
-            let place = place % own.len();
-            if !own[place].add(numbers) {
-                own.swap_remove(place);
-            }
-        }
-        _ => {}
+impl Living {
+    fn limit(&mut self) -> Duration {
+        Duration::from_millis(1 + self.numbers.below(2_000))
     }
-    others.truncate(16);
+
+    // One of others' counters, or of this one's own that others may have: its place.
+    fn any_other(&mut self) -> Option<usize> {
+        let count = self.others.len() as u64;
+        (count > 0).then(|| self.numbers.below(count) as usize)
+    }
+
+    fn deed(&mut self) {
+        match self.numbers.below(28) {
+            0 | 1 => self.has_one_made(),
+            2 => self.makes_one(),
+            3..6 => self.puts_one(),
+            6 | 7 => self.takes_one(),
+            8 if !self.own.is_empty() => {
+                let place = self.numbers.below(self.own.len() as u64) as usize;
+                drop(self.own.swap_remove(place));
+            }
+            9 => drop(self.any_other().map(|place| self.others.swap_remove(place))),
+            10 | 11 => self.has_one_called(),
+            12 | 13 => self.calls_one(),
+            14 | 15 => self.has_one_borne(),
+            16 => self.has_much_borne(),
+            17 | 18 => self.binds_one(),
+            19..22 => self.looks_one_up(),
+            22 => self.closes_one(),
+            _ => self.adds(),
+        }
+        self.others.truncate(16);
+    }
+
+    fn has_one_made(&mut self) {
+        let (start, limit) = (self.numbers.below(100) as i64, self.limit());
+        if self.own.len() < 12
+            && let Ok(counter) = self.shelf.make(start).or_cancel().wait_for(limit)
+        {
+            self.own.push(Own { counter, known: start, unknown: 0 });
+        }
+    }
+
+    // One of its own is for all; its methods run on a worker, or on the node's thread.
+    fn makes_one(&mut self) {
+        let run = if self.numbers.below(2) == 0 { Run::Pool } else { Run::Inline };
+        let made = self.node.export_with::<dyn Counter>(Tally::new(&self.alive), run);
+        self.others.push(made.expect("room"));
+    }
+
+    fn puts_one(&mut self) {
+        let Some(place) = self.any_other() else { return };
+        let put = self.shelf.put(self.others[place].clone());
+        let _put = put.wait_for(self.limit()).map_err(|error| is_excused(&error));
+    }
+
+    fn takes_one(&mut self) {
+        match self.shelf.take().wait_for(self.limit()) {
+            Ok(taken) => self.others.extend(taken),
+            Err(error) => drop(is_excused(&error)),
+        }
+    }
+
+    fn has_one_called(&mut self) {
+        let Some(place) = self.any_other() else { return };
+        let call = self.shelf.add_through(self.others[place].clone(), 1).or_cancel();
+        if let Ok(Err(text)) = call.wait_for(self.limit()) {
+            assert!(!text.contains("panic"), "{text}");
+        }
+    }
+
+    fn calls_one(&mut self) {
+        let Some(place) = self.any_other() else { return };
+        let limit = self.limit();
+        if let Err(error) = self.others[place].add(1).wait_for(limit)
+            && error != CallError::TimedOut
+            && !is_excused(&error)
+        {
+            self.others.swap_remove(place);
+        }
+    }
+
+    // By a method that takes no thread while it waits.
+    fn has_one_borne(&mut self) {
+        let Some(place) = self.any_other() else { return };
+        let call = self.bearer.add_to(self.others[place].clone(), 1).or_cancel();
+        let _added = call.wait_for(self.limit()).map_err(|error| is_excused(&error));
+    }
+
+    // Much at once, so that what goes over a connection is written and cut in many pieces.
+    fn has_much_borne(&mut self) {
+        let count = self.numbers.below(8_000) as usize;
+        let bytes = self.numbers.bytes(count);
+        match self.bearer.echo(bytes.clone()).wait_for(self.limit()) {
+            Ok(echoed) => assert!(echoed == bytes, "{count} bytes come back otherwise"),
+            Err(error) => drop(is_excused(&error)),
+        }
+    }
+
+    fn binds_one(&mut self) {
+        let Some(place) = self.any_other() else { return };
+        match self.numbers.below(3) {
+            0 => drop(self.node.unbind("common")),
+            _ => self.node.bind("common", &self.others[place]).expect("a name"),
+        }
+    }
+
+    // What another one has under its name, be it there or not.
+    fn looks_one_up(&mut self) {
+        let owner = id(1 + self.numbers.below(SPACES.into()) as u16);
+        match self.node.lookup::<dyn Counter>(owner, "common").wait_for(self.limit()) {
+            Ok(counter) => self.others.push(counter),
+            Err(CallError::Fault(Fault::NoName)) => {}
+            Err(error) => drop(is_excused(&error)),
+        }
+    }
+
+    // The session with the owner of something closes, but not with the first one.
+    fn closes_one(&mut self) {
+        let Some(place) = self.any_other() else { return };
+        let peer = self.others[place].owner();
+        if ![self.node.id(), id(1)].contains(&peer) {
+            self.node.close(peer);
+        }
+    }
+
+    // Sessions that have closed are opened anew, once nothing is left of what was had of the peer. Those of a node that
+    // came back are opened by the node.
+    fn open_again(&mut self) {
+        while let Some((peer, session)) = self.changes.try_next() {
+            if matches!(session, Session::Closed(_)) && peer != id(1) {
+                self.shut.push(peer);
+            }
+        }
+        if self.shut.is_empty() {
+            return;
+        }
+        self.others.retain(|other| !self.shut.contains(&other.owner()));
+        self.node.unbind("common");
+        let node = &self.node;
+        self.shut.retain(|peer| match node.open(*peer) {
+            Ok(_) => false,
+            Err(NodeError::Space(SpaceError::Refused(refusal))) => refusal == Refusal::StillHeld,
+            Err(error) => panic!("a session isn't opened: {error}"),
+        });
+    }
+
+    fn adds(&mut self) {
+        if self.own.is_empty() {
+            return;
+        }
+        let place = self.numbers.below(self.own.len() as u64) as usize;
+        if !self.own[place].add(&mut self.numbers) {
+            self.own.swap_remove(place);
+        }
+    }
 }

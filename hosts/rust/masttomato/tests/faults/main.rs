@@ -10,6 +10,7 @@
 //!
 //!     MASTTOMATO_FAULTS=1800 MASTTOMATO_SEED=5 tools/host-cargo test --test faults -- --nocapture
 
+mod bearer;
 #[path = "../common/mod.rs"]
 mod common;
 mod life;
@@ -22,6 +23,7 @@ mod strangers;
 mod things;
 mod weather;
 
+use bearer::{Bearer, Porter};
 use common::checking::{each_of, fault_of};
 use common::nobj;
 use life::{address_file, bounds_file, keeps_bounds};
@@ -182,18 +184,21 @@ fn world(seed: u64, time: Duration, folder: &Path) -> Sums {
     let board = Board::default();
     let alive = board.alive.clone();
     let shelf = node.export::<dyn Shelf>(Box::new(board)).expect("room");
+    let bearer = node.export::<dyn Bearer>(Box::new(Porter)).expect("room");
     node.bind("shelf", &shelf).expect("a name");
+    node.bind("bearer", &bearer).expect("a name");
     let mut sums = populate(&weather, time, plan, folder);
     [sums.faults, sums.strangers, sums.astray] = weather.sums();
     // What the lives held is given up, and what they left on the shelf is the first one's own again.
     node.unbind("shelf");
+    node.unbind("bearer");
     empty(&shelf);
     let came =
         |number| !matches!(node.session(id(number)), Session::Down { since } if since.is_zero());
     for number in (2..=SPACES).filter(|number| came(*number)) {
         eventually("its session closes", || matches!(node.session(id(number)), Session::Closed(_)));
     }
-    drop(shelf);
+    drop((shelf, bearer));
     eventually("what the lives held is given up", || alive.load(SeqCst) == 0);
     eventually("no call is open", || node.counts().calls_open == 0);
     eventually("no object is live", || node.report().is_ok_and(|report| report.live == 0));

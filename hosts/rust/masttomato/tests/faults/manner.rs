@@ -1,5 +1,5 @@
-//! How bytes go one way over a connection: as they come, late, in small pieces, or many at once; up to a byte; and with
-//! some between them that are none of a node's.
+//! How bytes go one way over a connection: as they come, late, in small pieces, or many at once; up to a byte; with
+//! some between them that are none of a node's; or with a bit of one changed.
 
 use crate::Numbers;
 use std::collections::VecDeque;
@@ -52,6 +52,8 @@ pub struct Way {
     left: Option<usize>,
     /// So many bytes of no record are to come behind the next record.
     garbage: Option<usize>,
+    /// Behind so many more bytes comes one of which a bit is changed.
+    changed: Option<usize>,
     /// Where records end; of what is sealed that can't be seen.
     records: Option<Records>,
     is_silent: bool,
@@ -67,6 +69,7 @@ impl Way {
             waiting: VecDeque::new(),
             left: None,
             garbage: None,
+            changed: None,
             records: (!is_sealed).then(Records::new),
             is_silent: false,
         }
@@ -85,6 +88,14 @@ impl Way {
     /// So many bytes that are none of a record come behind the next record, or anywhere.
     pub fn spoils(&mut self, count: usize) {
         self.garbage = Some(count);
+    }
+
+    /// A bit is changed behind so many more bytes. Nobody could tell that of what isn't sealed, so that is cut there.
+    pub fn changes(&mut self, count: usize) {
+        match self.records {
+            Some(_) => self.ends_behind(count),
+            None => self.changed = Some(count),
+        }
     }
 
     /// The other end is told that nothing comes any more.
@@ -109,7 +120,8 @@ impl Way {
     pub fn carry(&mut self, came: &[u8]) -> io::Result<()> {
         let now = Instant::now();
         if !came.is_empty() {
-            let bytes = self.spoilt(came);
+            let mut bytes = self.spoilt(came);
+            self.change(&mut bytes);
             let last = self.waiting.back().map(|(due, _)| *due).filter(|due| *due > now);
             let due = match last {
                 // What is being gathered goes together.
@@ -147,6 +159,15 @@ impl Way {
                 [&came[..end], &garbage, &came[end..]].concat()
             }
             _ => came.to_vec(),
+        }
+    }
+
+    // Changes a bit of one of these bytes, where it is to be there.
+    fn change(&mut self, bytes: &mut [u8]) {
+        let Some(count) = self.changed else { return };
+        self.changed = count.checked_sub(bytes.len());
+        if let Some(byte) = bytes.get_mut(count) {
+            *byte ^= 1 << self.numbers.below(8);
         }
     }
 

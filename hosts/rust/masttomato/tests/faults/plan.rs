@@ -26,6 +26,8 @@ pub struct Blow {
 pub struct Passage {
     /// It comes to whoever lives elsewhere: which of them, from any number on.
     pub astray: Option<u64>,
+    /// What befalls it from its first byte on, if anything does.
+    pub begins: Option<Fault>,
     /// The seeds of its two ways.
     pub ways: [u64; 2],
 }
@@ -99,13 +101,16 @@ impl Plan {
     pub fn passage(self, to: u16, place: u64) -> Passage {
         let mut numbers = self.numbers(Kind::Passage(to), place);
         let astray = (numbers.below(15) == 0).then(|| numbers.below(1 << 32));
-        Passage { astray, ways: [numbers.below(1 << 40), numbers.below(1 << 40)] }
+        let begins = (numbers.below(4) == 0).then(|| Fault::early(&mut numbers));
+        Passage { astray, begins, ways: [numbers.below(1 << 40), numbers.below(1 << 40)] }
     }
 
     /// What befalls the so-many-th process.
     pub fn fate(self, place: u64) -> Fate {
         let mut numbers = self.numbers(Kind::Fate, place);
-        let lasts = Duration::from_millis(200 + numbers.below(6_000));
+        // Some hardly begin.
+        let least_and_more = if numbers.below(6) == 0 { (0, 250) } else { (200, 6_000) };
+        let lasts = Duration::from_millis(least_and_more.0 + numbers.below(least_and_more.1));
         let pauses = (0..numbers.below(4)).map(|_| any_pause(&mut numbers)).collect();
         let reborn = (numbers.below(3) != 0).then(|| numbers.below(1 << 32));
         let is_killed = numbers.below(4) != 0;
@@ -140,8 +145,9 @@ fn a_seed_says_all_that_is_to_befall_a_world() {
     // Each kind of fault is among them.
     let kind_of = |blow: &Blow| std::mem::discriminant(&blow.fault);
     let kinds: std::collections::HashSet<_> = blows.iter().map(kind_of).collect();
-    assert_eq!(kinds.len(), 7, "{blows:?}");
+    assert_eq!(kinds.len(), 8, "{blows:?}");
     assert!(passages.iter().any(|passage| passage.astray.is_some()));
+    assert!(passages.iter().any(|passage| passage.begins.is_some()));
     let is_told = |fate: &&Fate| !fate.is_killed;
     assert!((5..45).contains(&fates.iter().filter(is_told).count()), "{fates:?}");
     assert!(fates.iter().any(|fate| !fate.pauses.is_empty() && fate.reborn.is_some()));

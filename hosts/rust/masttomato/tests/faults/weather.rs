@@ -28,6 +28,8 @@ pub enum Fault {
     Turns(Manner),
     /// Behind the record that goes over it one way stand so many bytes of no record.
     Garbage(usize),
+    /// Behind so many bytes one way a bit is another; where it isn't sealed it is cut there.
+    Changes(usize),
 }
 
 impl Fault {
@@ -41,6 +43,18 @@ impl Fault {
             13 => Fault::Stall(500 + numbers.below(3_000)),
             14..20 => Fault::Stall(1 + numbers.below(60)),
             20..23 => Fault::Garbage(16 + numbers.below(200) as usize),
+            23 => Fault::Changes(numbers.below(2_000) as usize),
+            _ => Fault::Turns(Manner::any(numbers)),
+        }
+    }
+
+    /// Any that may befall a connection from its first byte on: in its hellos, or in its handshake where it is sealed.
+    pub fn early(numbers: &mut Numbers) -> Fault {
+        match numbers.below(8) {
+            0..2 => Fault::CutBehind(numbers.below(200) as usize),
+            2 | 3 => Fault::CutBehind(numbers.below(5_000) as usize),
+            4 => Fault::Stall(1 + numbers.below(400)),
+            5 => Fault::Changes(numbers.below(4_000) as usize),
             _ => Fault::Turns(Manner::any(numbers)),
         }
     }
@@ -174,14 +188,15 @@ fn accept(listener: &TcpListener, place: u16, shared: &Shared, plan: Plan, is_se
         if shared.is_over.load(SeqCst) {
             return;
         }
-        let Passage { astray, ways } = plan.passage(place, count);
+        let Passage { astray, begins, ways } = plan.passage(place, count);
         // Some go astray, and come to whoever lives elsewhere.
         let target = astray.map_or_else(|| shared.target(place), |which| shared.any_target(which));
         shared.astray.fetch_add(astray.is_some().into(), SeqCst);
         let Some(far) = target.and_then(|address| TcpStream::connect(address).ok()) else {
             continue;
         };
-        let both = Arc::new(Carried::default());
+        let both = Arc::new(Carried { fault: Mutex::new(begins), ..Carried::default() });
+        shared.faults.fetch_add(begins.is_some().into(), SeqCst);
         let (Ok(back), Ok(forth)) = (near.try_clone(), far.try_clone()) else { continue };
         shared.carried.lock().unwrap().push(both.clone());
         for ((from, to), seed) in [(near, forth), (far, back)].into_iter().zip(ways) {
@@ -207,6 +222,7 @@ fn carry(mut from: TcpStream, mut way: Way, both: &Carried) {
             Some(Fault::CutBehind(count)) => way.ends_behind(count),
             Some(Fault::Turns(manner)) => way.turns(manner),
             Some(Fault::Garbage(count)) => way.spoils(count),
+            Some(Fault::Changes(count)) => way.changes(count),
             None => {}
         }
         from.set_read_timeout(Some(way.patience())).expect("a socket");

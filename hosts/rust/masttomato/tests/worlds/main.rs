@@ -1,4 +1,4 @@
-//! Worlds of engines without a network: 2,500 scripts from seeds, in which connections break at any
+//! Worlds of engines without a network: 10,000 scripts from seeds, in which connections break at any
 //! byte and clocks jump. In each every call is answered once and carried out once at most, all objects are
 //! withdrawn once nobody holds them, and the traces of all nodes are a run. A script that fails is made
 //! shorter and printed; WORLD_SCRIPT names a file with one that is to be played again. In further worlds one
@@ -25,12 +25,13 @@ use std::sync::atomic::{AtomicU64, Ordering::Relaxed};
 use std::thread;
 use world::World;
 
-const RUNS: u64 = 2_500;
+const RUNS: u64 = 10_000;
 /// Of worlds of other kinds there are fewer.
 const FEWER: u64 = 250;
 const THREADS: u64 = 2;
-/// `nobj check`, a process each time, judges one of so many.
-const CHECKED: u64 = 25;
+/// `nobj check`, a process each time, judges one of so many of the first kind, and of the others.
+const CHECKED: u64 = 100;
+const OFTENER: u64 = 25;
 
 // So many of a kind, or as many times that as is said.
 fn many(runs: u64) -> u64 {
@@ -123,7 +124,7 @@ fn worlds_in_which_one_misbehaves_keep_their_promises() {
         for (misdeed, count) in world.misdeeds() {
             *done.lock().expect("no panic").entry(misdeed).or_default() += count;
         }
-        if seed.is_multiple_of(CHECKED)
+        if seed.is_multiple_of(OFTENER)
             && let Some(said) = nobj("check", world.traces().concat().as_bytes())
         {
             assert!(is_judged(&said, &world), "seed {seed}: {said}");
