@@ -122,13 +122,14 @@ impl Desks {
         count
     }
 
-    // Says on standard error what each player said last.
+    // Says on standard error what each player said last, and how its sessions stood when it looked.
     pub(crate) fn tell<R: Wait, P: Eprint>(&self, rt: &R, out: &P) {
         for (place, desk) in self.desks.iter().enumerate() {
             let said = desk.said(rt);
             let doing = said.doing;
             let count = said.count;
-            let _ = eprintln!(out; "nothing goes on: player {place} {doing:?}, {count} said");
+            let ends = said.ends;
+            let _ = eprintln!(out; "player {place} {doing:?}, {count} said, {ends:?}");
         }
     }
 }

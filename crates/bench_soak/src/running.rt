@@ -24,7 +24,11 @@ pub(crate) fn run_round<R: Threads + Wait + Sync + Print + Eprint>(
     let players = players_of(alloc, round.plan(), &desks)?;
     let mut watch = Watch::new(rt, &desks, carriers);
     let played = run_nodes(rt, nodes, &OpenGate, players, &mut watch)?;
-    Some(outcome_of(rt, alloc, &desks, played))
+    let outcome = outcome_of(rt, alloc, &desks, played);
+    if !outcome.is_right() {
+        desks.tell(rt, rt);
+    }
+    Some(outcome)
 }
 
 // The players, who say at these desks what they do. Only memory fails it.

@@ -69,6 +69,7 @@ impl<'p, 's, P: Print + Eprint> Watch<'p, 's, P> {
         self.rested = self.rested.saturating_add(micros);
         if self.rested >= PATIENCE {
             self.rested = 0;
+            let _ = eprintln!(self.out; "nothing goes on");
             self.desks.tell(rt, self.out);
         }
     }
