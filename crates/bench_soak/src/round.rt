@@ -49,9 +49,10 @@ pub(crate) struct Plan {
     pub(crate) seed: u64,
 }
 
-/// After how many turns a tick is made at least; after twice as many at most, and over links that
-/// lose after eight times as many.
-const TICK: u64 = 128;
+/// After how many turns a tick is made at least, and at most.
+const MIN_TICK: u64 = 128;
+
+const MAX_TICK: u64 = 1_024;
 
 /// How many parcels are carried at least, and at most, before links are let go.
 const MIN_CARRIED: u64 = 100;
@@ -77,7 +78,7 @@ impl Round {
         };
         layout.seed = chance.below(1 << 32);
         layout.pause = u32::from(chance.small_between(1, 8));
-        layout.tick_every = ticks_by(&mut chance, layout);
+        layout.tick_every = ticks_by(&mut chance, layout.pause);
         layout.capacity = usize::from(chance.small_between(1, 64));
         layout.limits = limits_by(&mut chance);
         Round {
@@ -131,16 +132,11 @@ fn wished(wish: u64, chance: &mut Chance, least: u8, most: u8) -> u8 {
     u8::try_from(wish).unwrap_or(most).max(least).min(most)
 }
 
-// After how many repeats a tick is made.
-fn ticks_by(chance: &mut Chance, layout: Layout) -> u32 {
-    let turns = chance.between(TICK, TICK.saturating_mul(2));
-    let all = if layout.loss == 0 {
-        turns
-    } else {
-        turns.saturating_mul(8)
-    };
-    let repeats = all.checked_div(u64::from(layout.pause)).unwrap_or(all);
-    u32::try_from(repeats).unwrap_or(u32::MAX)
+// After how many pauses of so many turns a tick is made.
+fn ticks_by(chance: &mut Chance, pause: u32) -> u32 {
+    let turns = chance.between(MIN_TICK, MAX_TICK);
+    let pauses = turns.checked_div(u64::from(pause)).unwrap_or(turns);
+    u32::try_from(pauses).unwrap_or(u32::MAX)
 }
 
 // The limits of all sessions.
