@@ -9,7 +9,7 @@ use nob_pickle::Value;
 /// what that answers. A method that waits for a reply has a worker; so that workers don't wait for
 /// one another in a ring, it calls an object of a space with a higher number alone, and none that
 /// calls.
-#[derive(Clone, Copy, Debug, Drop)]
+#[derive(Clone, Copy, Drop)]
 pub(crate) struct Caller {
     // The number of its space.
     space: u16,

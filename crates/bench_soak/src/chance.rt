@@ -1,7 +1,7 @@
 //! Numbers that look random, from a seed.
 
 /// Numbers that look random, from a seed.
-#[derive(Clone, Copy, Debug)]
+#[derive(Clone, Copy)]
 pub(crate) struct Chance {
     state: u64,
 }

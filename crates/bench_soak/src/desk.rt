@@ -33,7 +33,7 @@ pub(crate) enum Doing {
 }
 
 /// What a player does now, how much it has done, and how its sessions stood when it looked last.
-#[derive(Clone, Copy, Debug)]
+#[derive(Clone, Copy)]
 struct Said {
     doing: Doing,
     count: u64,

@@ -47,7 +47,7 @@ impl Ends {
 }
 
 /// How the two ends of a session stand to each other.
-#[derive(Clone, Copy, Debug, PartialEq, Eq)]
+#[derive(Clone, Copy, PartialEq, Eq)]
 pub(crate) enum Pair {
     /// Both are closed.
     Closed,

@@ -3,7 +3,7 @@
 use nob_nodes::{NodeError, Returned};
 
 /// How often what happened to a player, or to several. It depends on the schedule.
-#[derive(Clone, Copy, Debug)]
+#[derive(Clone, Copy)]
 pub(crate) struct Figures {
     /// Steps.
     pub(crate) steps: u64,

@@ -25,7 +25,7 @@ pub(crate) enum Verdict {
 }
 
 /// What a round came to.
-#[derive(Clone, Copy, Debug)]
+#[derive(Clone, Copy)]
 pub(crate) struct Outcome {
     /// How often what happened.
     pub(crate) figures: Figures,

@@ -5,7 +5,7 @@ use nob_pickle::{Value, Values};
 use std::alloc::{AllocError, Global};
 
 /// What an object is.
-#[derive(Clone, Copy, Debug, PartialEq, Eq)]
+#[derive(Clone, Copy, PartialEq, Eq)]
 pub(crate) enum Kind {
     /// It counts its calls.
     Counter,
@@ -53,7 +53,7 @@ impl Kind {
 }
 
 /// A reference to an object of a kind.
-#[derive(Clone, Copy, Debug, PartialEq, Eq)]
+#[derive(Clone, Copy)]
 pub(crate) struct Reference {
     pub(crate) rep: WireRep,
     pub(crate) kind: Kind,

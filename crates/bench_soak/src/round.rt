@@ -7,7 +7,7 @@ use nob_nodes::{Keep, Layout};
 /// What is asked for: so many rounds, one after the other, from a seed on, but none begins after so
 /// many seconds, where these aren't 0. Where the spaces or the workers are 0 each round has some by
 /// chance.
-#[derive(Clone, Copy, Debug)]
+#[derive(Clone, Copy)]
 pub(crate) struct Wish {
     pub(crate) seed: u64,
     pub(crate) rounds: u64,
@@ -18,7 +18,7 @@ pub(crate) struct Wish {
 }
 
 /// A round: so many spaces, whose players take so many steps each, in phases.
-#[derive(Clone, Copy, Debug)]
+#[derive(Clone, Copy)]
 pub(crate) struct Round {
     /// Which one.
     pub(crate) number: u64,
@@ -37,7 +37,7 @@ pub(crate) struct Round {
 }
 
 /// What a player is to do, one of so many.
-#[derive(Clone, Copy, Debug)]
+#[derive(Clone, Copy)]
 pub(crate) struct Plan {
     /// How many spaces there are.
     pub(crate) spaces: u16,

@@ -10,7 +10,7 @@ use std::mem;
 const MAX_KEPT: usize = 8;
 
 /// What a table does while a method runs.
-#[derive(Clone, Copy, Debug)]
+#[derive(Clone, Copy)]
 enum Doing {
     /// Nothing.
     Nothing,
