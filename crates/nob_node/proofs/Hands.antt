@@ -15,8 +15,9 @@ some (suc count) all empty not_empty is same = omega (arith, same)
 -- all came back of the first hand, and then of the others
 pub one_more : {B : Type 0} (hands others : List (Serving (Kept B))) (hand : Serving (Kept B)) (before with_end after : List (LaneTake (Errand (Kept B)))) (end : LaneTake (Errand (Kept B))) (old between new : List (ℕ × Place (Kept B))) → 1 ≤ length hands → hand ≡ get_or hands 0 hand → others ≡ drop 1 hands → with_end ≡ before ++ end ∷ [] → HandCameBack hand end old between → HandsCameBack others with_end after between new → HandsCameBack hands before after old new
 one_more [] others hand before with_end after end old between new filled first rest ends one back = absurd (omega arith)
-one_more {B} (h ∷ hs) others hand before with_end after end old between new filled first rest ends one back =
-    ( end
-    , between
-    , subst (λ (x : Serving (Kept B)). HandCameBack x end old between) first one
-    , subst (λ (x : List (Serving (Kept B))). HandsCameBack x (before ++ end ∷ []) after between new) rest (subst (λ (x : List (LaneTake (Errand (Kept B)))). HandsCameBack others x after between new) ends back))
+one_more {B} (h ∷ hs) others hand before with_end after end old between new filled first rest ends one back = (
+  end,
+  between,
+  subst (λ (x : Serving (Kept B)). HandCameBack x end old between) first one,
+  subst (λ (x : List (Serving (Kept B))). HandsCameBack x (before ++ end ∷ []) after between new) rest (subst (λ (x : List (LaneTake (Errand (Kept B)))). HandsCameBack others x after between new) ends back),
+)
