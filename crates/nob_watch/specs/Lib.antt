@@ -1,0 +1,5 @@
+pub use Rattle.nob_recall.specs.Next
+pub use Rattle.nob_recall.specs.Orders
+pub mod Sealing
+pub mod Reruns
+pub mod Watches
