@@ -1,0 +1,4 @@
+pub mod Typed
+pub mod Peers
+pub mod Reruns
+pub mod Watches

@@ -1,0 +1,372 @@
+-- What one entry more leaves of a run that is followed.
+use Rattle.std.proofs.Common.{◌≡◌, ◌≢◌, ◌⊎◌, ◌↔◌, ℕ, ◌+◌, ◌-◌, ◌≤◌, ◌<◌, ◌^◌, Bool, true, false, cond, ◌==◌, List, [], ◌∷◌, ◌++◌, length, map, filter, reverse, replicate, get_or, slice_get, Option, Some, None, inl, inr, refl, sym, ap, subst, ◌∙◌, arith}
+use Prim.Native.Nat.{zero, suc}
+use Rattle.std.specs.Prelude.{Result, Ok, Err, IfOk, OnErr}
+use Rattle.std.specs.List.{AllByRecursion, Contains}
+use Rattle.std.proofs.lemmas.Option.{slice_get_read}
+use lib.ListN.{set}
+use Rattle.std.proofs.lemmas.List.{length-set, length-replicate, reverse-append}
+use Rattle.std.proofs.lemmas.Cmp.{nat_eq_equiv}
+use Rattle.std.proofs.lemmas.Bool.Decides.{nat_tests, Decides-eqb}
+use Rattle.nob_ids.specs.declared.limits.Limits.{Limits}
+use Rattle.nob_frame.specs.declared.frame.Frame.{Frame}
+use Rattle.nob_model_types.specs.declared.entry.Entry.{Entry}
+use Rattle.nob_model_types.specs.declared.event.Event.{Event}
+use Rattle.nob_model_types.specs.declared.event.Event.TheVariants as events
+use Rattle.nob_model.specs.Right.{IsRight}
+use Rattle.nob_model_journal.specs.Journals.{at}
+use Rattle.nob_model_journal.specs.Runs.{ArrivesGiven, IsOfWorld, WorldRun}
+use Rattle.nob_model_invariant.specs.Safe.{IsSafe}
+use Rattle.nob_model_invariant.proofs.Safe.{safe_law}
+use Rattle.nob_model_invariant.specs.Typed.{IsOfTypes}
+use Rattle.nob_recall.specs.Next.{CanPass, place_of, stray_fault}
+use Rattle.nob_recall.specs.declared.fault.WatchFault.{WatchFault}
+use Rattle.nob_recall.specs.declared.fault.WatchFault.TheVariants as faults
+use Rattle.nob_recall.specs.Recalls.{Recalled, Recalls}
+use Rattle.nob_recall.specs.Remembering.{ArrivesRemembered, memory}
+use Rattle.nob_recall.proofs.Forgetting.{remembered_were_transmitted}
+use Rattle.nob_space.specs.Spaces.{Owner, StandsFor, SameSpace, entry_of}
+use Rattle.nob_recall.specs.declared.dated.Dated.{Dated}
+use Rattle.nob_recall.proofs.Dues.{placed, set_other}
+use Rattle.nob_watch.specs.Sealing.{is_whole_seal}
+use Rattle.nob_recall.specs.declared.dated.SegmentSeal.{SegmentSeal}
+use Rattle.nob_watch.specs.Reruns.{journal_of, is_sealed, AreSealed, AreLimits, IsMember, AreMembers, ArePlaces, IsRun, IsAnswered, IsAsked, IsSealFault, IsFaultBy, IsOriginFault, IsJudged, Following, begun, with_dated, with_fault, CanPassBy, IsLive, IsSound, IsRerun}
+
+-- ---- journals
+
+pub journal_more : (passed : List Dated) (dated : Dated) → journal_of (passed ++ dated ∷ []) ≡ dated.entry ∷ journal_of passed
+journal_more passed dated = ap (map (λ (d : Dated). d.entry)) (reverse-append passed (dated ∷ []))
+
+pub sealed_more : (n : ℕ) (passed : List Dated) (dated : Dated) → AreSealed n (reverse passed) → is_sealed n dated.stamp dated.entry.space (dated.entry ∷ journal_of passed) dated.seal ≡ true → AreSealed n (reverse (passed ++ dated ∷ []))
+sealed_more n passed dated are is = subst (AreSealed n) (sym (reverse-append passed (dated ∷ []))) (is, are)
+
+-- an entry more of a space stands in its own list
+at_own : (entry : Entry) (J : List Entry) → at entry.space (entry ∷ J) ≡ entry ∷ at entry.space J
+at_own entry J = ap (λ (b : Bool). cond b (entry ∷ at entry.space J) (at entry.space J)) (nat_eq_equiv.refl entry.space)
+
+-- and in no other
+at_other : (entry : Entry) (q : ℕ) (J : List Entry) → (entry.space == q) ≡ false → at q (entry ∷ J) ≡ at q J
+at_other entry q J differs = ap (λ (b : Bool). cond b (entry ∷ at q J) (at q J)) differs
+
+filter_short : {X : Type 0} (test : X → Bool) (xs : List X) → length (filter test xs) ≤ length xs
+filter_short test [] = omega arith
+filter_short {X} test (x ∷ xs) = by (test x) (filter_short test xs)
+  where
+    by : (b : Bool) → length (filter test xs) ≤ length xs → length (cond b (x ∷ filter test xs) (filter test xs)) ≤ suc (length xs)
+    by true low = omega (arith, low)
+    by false low = omega (arith, low)
+
+pub at_short : (p : ℕ) (J : List Entry) → length (at p J) ≤ length J
+at_short p J = filter_short (λ (entry : Entry). entry.space == p) J
+
+reverse_length : {X : Type 0} (xs : List X) → length (reverse xs) ≡ length xs
+reverse_length xs = search rules
+
+-- ---- lists
+
+-- an element that was read stands at its place
+pub read_there : {X : Type 0} (xs : List X) (p k : ℕ) (x : X) → k ≡ p - 1 → 1 ≤ p → p ≤ length xs → x ≡ get_or xs k x → slice_get xs (p - 1) ≡ Some x
+read_there xs p k x same low high is = slice_get_read xs (length xs) (p - 1) x refl (omega (arith, low, high)) (subst (λ (j : ℕ). x ≡ get_or xs j x) same is)
+
+-- ---- the spaces
+
+-- with one changed that stands for another list, where no other space has another entry
+members_changed : (n : ℕ) (list : List Limits) (spaces : List Owner) (J J' : List Entry) (p : ℕ) (old new : Owner)
+    → AreMembers n list J spaces → 1 ≤ p → slice_get spaces (p - 1) ≡ Some old → SameSpace old new → StandsFor new (at p J') → ((q : ℕ) → (p == q) ≡ false → at q J' ≡ at q J)
+    → AreMembers n list J' (set spaces (p - 1) new)
+members_changed n list spaces J J' p old new members low there same stands others = record {
+  each = length-set spaces (p - 1) new ∙ members.each;
+  stand = λ place space got. by place space got (place == p - 1) refl;
+}
+  where
+    number : p - 1 + 1 ≡ p
+    number = omega (arith, low)
+
+    before : IsMember n list J p old
+    before = subst (λ (q : ℕ). IsMember n list J q old) number (members.stand (p - 1) old there)
+
+    its : IsMember n list J' p new
+    its = record {
+      id = same.id ∙ before.id;
+      count = same.n ∙ before.count;
+      its_limits = before.its_limits ∙ ap Some (sym same.limits);
+      stands = stands;
+    }
+
+    by : (place : ℕ) (space : Owner) → slice_get (set spaces (p - 1) new) place ≡ Some space → (t : Bool) → (place == p - 1) ≡ t → IsMember n list J' (place + 1) space
+    by place space got true here =
+        let here_is : place ≡ p - 1 = (Decides-eqb place (p - 1)).0 here in
+        let is : space ≡ new = let both : Some space ≡ Some new = sym got ∙ ap (slice_get (set spaces (p - 1) new)) here_is ∙ placed spaces (p - 1) new old there in cc in
+        let next : p ≡ place + 1 = omega (arith, here_is, low) in
+        subst (λ (q : ℕ). IsMember n list J' q space) next (subst (IsMember n list J' p) (sym is) its)
+    by place space got false elsewhere =
+        let apart : place ≡ p - 1 → ⊥ = λ e. let holds : true ≡ false = sym ((Decides-eqb place (p - 1)).1 e) ∙ elsewhere in absurd cc in
+        let own = members.stand place space (sym (set_other spaces (p - 1) place new apart) ∙ got) in
+        let differs : (p == place + 1) ≡ false = grind (arith, nat_tests, elsewhere, low) in
+        record {
+          id = own.id;
+          count = own.count;
+          its_limits = own.its_limits;
+          stands = subst (StandsFor space) (sym (others (place + 1) differs)) own.stands;
+        }
+
+-- what was asked of a space
+pub record Asked (n : ℕ) (list : List Limits) (J : List Entry) (spaces : List Owner) (entry : Entry) (k : ℕ) (old new : Owner) : Type 0 where
+  pub members : AreMembers n list J spaces
+  pub number : k ≡ entry.space - 1
+  pub low : 1 ≤ entry.space
+  pub high : entry.space ≤ length spaces
+  pub old_is : old ≡ get_or spaces k old
+  pub same : SameSpace old new
+
+module _ {n : ℕ} {list : List Limits} {J : List Entry} {spaces : List Owner} {entry : Entry} {k : ℕ} {old new : Owner} (asked : Asked n list J spaces entry k old new) where
+  old_there : slice_get spaces (entry.space - 1) ≡ Some old
+  old_there = read_there spaces entry.space k old asked.number asked.low asked.high asked.old_is
+
+  member_of : IsMember n list J entry.space old
+  member_of = subst (λ (q : ℕ). IsMember n list J q old) (let number : entry.space - 1 + 1 ≡ entry.space = let low = asked.low in omega (arith, low) in number) (asked.members.stand (entry.space - 1) old old_there)
+
+  -- where memory was wanted the spaces stand for what they stood for
+  pub members_kept : ((L : List Entry) → StandsFor old L → StandsFor new L) → AreMembers n list J (set spaces k new)
+  members_kept stands =
+      subst (λ (j : ℕ). AreMembers n list J (set spaces j new)) (sym asked.number)
+      (members_changed n list spaces J J entry.space old new asked.members asked.low old_there asked.same (stands (at entry.space J) member_of.stands) (λ q other. refl))
+
+  -- else they stand for the entry too
+  pub members_more : ((L : List Entry) → StandsFor old L → StandsFor new (entry_of old.id entry.event entry.result ∷ L)) → AreMembers n list (entry ∷ J) (set spaces k new)
+  members_more stands =
+      subst (λ (j : ℕ). AreMembers n list (entry ∷ J) (set spaces j new)) (sym asked.number)
+      (members_changed n list spaces J (entry ∷ J) entry.space old new asked.members asked.low old_there asked.same
+      (subst (StandsFor new) (sym (at_own entry J)) (subst (λ (q : ℕ). StandsFor new (entry_of q entry.event entry.result ∷ at entry.space J)) member_of.id (stands (at entry.space J) member_of.stands)))
+      (λ q other. at_other entry q J other))
+
+  -- what is right by the space's own numbers is by those of the world
+  by_world : (its : Limits) → slice_get list (entry.space - 1) ≡ Some its → IsRight old.id old.n old.limits (entry_of old.id entry.event entry.result) (at entry.space J) → IsRight entry.space n its entry (at entry.space J)
+  by_world its there right =
+      let same : old.limits ≡ its = (let both : Some old.limits ≡ Some its = sym member_of.its_limits ∙ there in cc) in
+      subst (λ (l : Limits). IsRight entry.space n l entry (at entry.space J)) same
+      (subst (λ (m : ℕ). IsRight entry.space m old.limits entry (at entry.space J)) member_of.count
+      (subst (λ (s : ℕ). IsRight s old.n old.limits (entry_of s entry.event entry.result) (at entry.space J)) member_of.id right))
+
+  by_space : (its : Limits) → slice_get list (entry.space - 1) ≡ Some its → IsRight entry.space n its entry (at entry.space J) → IsRight old.id old.n old.limits (entry_of old.id entry.event entry.result) (at entry.space J)
+  by_space its there right =
+      let same : its ≡ old.limits = (let both : Some its ≡ Some old.limits = sym there ∙ member_of.its_limits in cc) in
+      subst (λ (s : ℕ). IsRight s old.n old.limits (entry_of s entry.event entry.result) (at entry.space J)) (sym member_of.id)
+      (subst (λ (m : ℕ). IsRight entry.space m old.limits entry (at entry.space J)) (sym member_of.count)
+      (subst (λ (l : Limits). IsRight entry.space n l entry (at entry.space J)) same right))
+
+  typed_of : IsOfTypes (entry_of old.id entry.event entry.result) → IsOfTypes entry
+  typed_of typed = subst (λ (s : ℕ). IsOfTypes (entry_of s entry.event entry.result)) member_of.id typed
+
+  -- what the space answered
+  pub asked_of : (same : Bool)
+      → ((L : List Entry) → StandsFor old L → (same ≡ true) ↔ IsRight old.id old.n old.limits (entry_of old.id entry.event entry.result) L)
+      → (same ≡ true → (L : List Entry) → StandsFor old L → StandsFor new (entry_of old.id entry.event entry.result ∷ L))
+      → (same ≡ true → IsOfTypes (entry_of old.id entry.event entry.result))
+      → IsAnswered n list J (set spaces k new) entry same
+  asked_of true right stands typed = (members_more (stands refl), typed_of (typed refl), λ its there. by_world its there ((right (at entry.space J) member_of.stands).0 refl))
+  asked_of false right stands typed = λ its there is. (let holds : false ≡ true = (right (at entry.space J) member_of.stands).1 (by_space its there is) in absurd cc)
+
+  -- the same, whatever came of it
+  pub asked_by : {E : Type 0} (result : Result Bool E)
+      → IfOk result (λ same. (L : List Entry) → StandsFor old L → (same ≡ true) ↔ IsRight old.id old.n old.limits (entry_of old.id entry.event entry.result) L)
+      → IfOk result (λ same. same ≡ true → (L : List Entry) → StandsFor old L → StandsFor new (entry_of old.id entry.event entry.result ∷ L))
+      → IfOk result (λ same. same ≡ true → IsOfTypes (entry_of old.id entry.event entry.result))
+      → OnErr result ((L : List Entry) → StandsFor old L → StandsFor new L)
+      → IsAsked n list J (set spaces k new) entry result
+  asked_by (Ok same) right stands typed err = asked_of same right stands typed
+  asked_by (Err error) right stands typed err = members_kept err
+
+-- ---- seals
+
+pub seal_of : (n : ℕ) (list : List Limits) (J : List Entry) (spaces : List Owner) (dated : Dated) (k : ℕ) (space : Owner) (own : SegmentSeal) (right : Bool)
+    → AreMembers n list J spaces → k ≡ dated.entry.space - 1 → 1 ≤ dated.entry.space → dated.entry.space ≤ length spaces → space ≡ get_or spaces k space
+    → ((L : List Entry) → StandsFor space L → right ≡ is_whole_seal space.id space.n dated.stamp L own.seal)
+    → right ≡ is_sealed n dated.stamp dated.entry.space J (Some own)
+seal_of n list J spaces dated k space own right are number low high is said =
+    said (at dated.entry.space J) member.stands ∙ ap (λ (s : ℕ). is_whole_seal s space.n dated.stamp (at dated.entry.space J) own.seal) member.id ∙ ap (λ (m : ℕ). is_whole_seal dated.entry.space m dated.stamp (at dated.entry.space J) own.seal) member.count
+  where
+    there : slice_get spaces (dated.entry.space - 1) ≡ Some space
+    there = read_there spaces dated.entry.space k space number low high is
+
+    member : IsMember n list J dated.entry.space space
+    member = subst (λ (q : ℕ). IsMember n list J q space) (let one : dated.entry.space - 1 + 1 ≡ dated.entry.space = omega (arith, low) in one) (are.stand (dated.entry.space - 1) space there)
+
+pub seal_none : (n stamp space : ℕ) (J : List Entry) (seal : Option SegmentSeal) → seal ≡ None → is_sealed n stamp space J seal ≡ true
+seal_none n stamp space J seal is = ap (is_sealed n stamp space J) is
+
+-- ---- what is wrong with the next entry
+
+-- its space answers otherwise
+pub judged_wrong : (n : ℕ) (list : List Limits) (span : ℕ) (dated : Dated) (J : List Entry) (spaces : List Owner) (place : ℕ) (same : Bool)
+    → place ≡ place_of dated.entry J → same ≡ false → IsAnswered n list J spaces dated.entry same → IsFaultBy n list span dated J (faults.NotARun dated.entry.space place)
+judged_wrong n list span dated J spaces place same is fails answered =
+    let other = subst (IsAnswered n list J spaces dated.entry) fails answered in
+    λ its there. inl (inl (ap (faults.NotARun dated.entry.space) is, other its there))
+
+-- or its frame has no origin
+pub judged_stray : (n : ℕ) (list : List Limits) (span : ℕ) (dated : Dated) (J : List Entry) (spaces : List Owner) (place : ℕ) (fault : WatchFault) (same : Bool)
+    → place ≡ place_of dated.entry J → same ≡ true → IsAnswered n list J spaces dated.entry same → IsOriginFault span dated.entry J place (Some fault) → IsFaultBy n list span dated J fault
+judged_stray n list span dated J spaces place fault same is holds answered origin =
+    let so = subst (IsAnswered n list J spaces dated.entry) holds answered in
+    λ its there. inl (inr (record {
+      right = so.1.1 its there;
+      frame = origin.0;
+      arrives = origin.1;
+      stray = (origin.2.0, origin.2.1 ∙ ap (stray_fault origin.0 J dated.entry.space) is);
+    }))
+
+-- or the seal behind it is wrong, or nothing is wrong
+pub judged_seal : {E : Type 0} (n : ℕ) (list : List Limits) (recall : Recalled) (dated : Dated) (J : List Entry) (spaces : List Owner) (place : ℕ) (found : Option WatchFault) (same : Bool)
+    → same ≡ true → IsAnswered n list J spaces dated.entry same → IsOriginFault recall.span dated.entry J place None → IsSealFault n dated (dated.entry ∷ J) found → IsJudged {E = E} n list J spaces recall dated (Ok found)
+judged_seal n list recall dated J spaces place None same holds answered origin sealed =
+    let so = subst (IsAnswered n list J spaces dated.entry) holds answered in
+    (so.0, so.1.0, record { can = λ its there. record { right = so.1.1 its there; arrives = origin }; sealed = sealed })
+judged_seal n list recall dated J spaces place (Some fault) same holds answered origin sealed =
+    let so = subst (IsAnswered n list J spaces dated.entry) holds answered in
+    λ its there. inr (record { right = so.1.1 its there; arrives = origin }, sealed)
+
+-- the place that is kept is that of the next entry
+pub place_is : (n : ℕ) (J : List Entry) (places : List ℕ) (entry : Entry) (k place : ℕ) → ArePlaces n J places → k ≡ entry.space - 1 → 1 ≤ entry.space → entry.space ≤ length places → place ≡ get_or places k place → place ≡ place_of entry J
+place_is n J places entry k place are number low high is =
+    let there = read_there places entry.space k place number low high is in
+    let most : entry.space ≤ n = subst (λ (l : ℕ). entry.space ≤ l) are.each high in
+    let both : Some place ≡ Some (length (at entry.space J) + 1) = sym there ∙ are.next entry.space low most in cc
+
+-- ---- places
+
+pub places_more : (n : ℕ) (J : List Entry) (places : List ℕ) (entry : Entry) (k value : ℕ) → ArePlaces n J places → k ≡ entry.space - 1 → 1 ≤ entry.space → entry.space ≤ n → slice_get places (entry.space - 1) ≡ Some value → ArePlaces n (entry ∷ J) (set places k (value + 1))
+places_more n J places entry k value are number low high there = record {
+  each = length-set places k (value + 1) ∙ are.each;
+  next = λ p first last. by p first last (entry.space == p) refl;
+}
+  where
+    value_is : value ≡ length (at entry.space J) + 1
+    value_is = let both : Some value ≡ Some (length (at entry.space J) + 1) = sym there ∙ are.next entry.space low high in cc
+
+    own : slice_get (set places k (value + 1)) (entry.space - 1) ≡ Some (length (at entry.space (entry ∷ J)) + 1)
+    own = subst (λ (j : ℕ). slice_get (set places j (value + 1)) (entry.space - 1) ≡ Some (length (at entry.space (entry ∷ J)) + 1)) (sym number)
+        (placed places (entry.space - 1) (value + 1) value there ∙ ap Some (ap (λ (v : ℕ). v + 1) value_is ∙ further ∙ ap (λ (L : List Entry). length L + 1) (sym (at_own entry J))))
+      where
+        further : length (at entry.space J) + 1 + 1 ≡ suc (length (at entry.space J)) + 1
+        further = omega arith
+
+    by : (p : ℕ) → 1 ≤ p → p ≤ n → (t : Bool) → (entry.space == p) ≡ t → slice_get (set places k (value + 1)) (p - 1) ≡ Some (length (at p (entry ∷ J)) + 1)
+    by p first last true here = subst (λ (q : ℕ). slice_get (set places k (value + 1)) (q - 1) ≡ Some (length (at q (entry ∷ J)) + 1)) ((Decides-eqb entry.space p).0 here) own
+    by p first last false elsewhere =
+        let apart : p - 1 ≡ k → ⊥ = λ e. let two : p - 1 ≡ entry.space - 1 = e ∙ number in let one : entry.space ≡ p = omega (arith, two, low, first) in let holds : true ≡ false = sym ((Decides-eqb entry.space p).1 one) ∙ elsewhere in absurd cc in
+        set_other places k (p - 1) (value + 1) apart ∙ are.next p first last ∙ ap (λ (L : List Entry). Some (length L + 1)) (sym (at_other entry p J elsewhere))
+
+-- the next place of a space is a number
+pub place_low : (n : ℕ) (passed : List Dated) (places : List ℕ) (p place : ℕ) → ArePlaces n (journal_of passed) places → 1 ≤ p → p ≤ n → slice_get places (p - 1) ≡ Some place → length passed < 2 ^ 62 → place < 2 ^ 63
+place_low n passed places p place are low high there short =
+    let both : Some place ≡ Some (length (at p (journal_of passed)) + 1) = sym there ∙ are.next p low high in
+    let is : place ≡ length (at p (journal_of passed)) + 1 = cc in
+    let most : length (at p (journal_of passed)) ≤ length (journal_of passed) = at_short p (journal_of passed) in
+    let count : length (journal_of passed) ≡ length passed = map_length (reverse passed) ∙ reverse_length passed in
+    omega (arith, is, most, count, short)
+  where
+    map_length : (xs : List Dated) → length (map (λ (d : Dated). d.entry) xs) ≡ length xs
+    map_length [] = refl
+    map_length (x ∷ xs) = ap suc (map_length xs)
+
+-- ---- the run
+
+given : (span : ℕ) (event : Event) (J : List Entry) → ArrivesRemembered span event J → ArrivesGiven event J
+given span (events.Arrive frame) J there = remembered_were_transmitted span J frame there
+given span (_) J there = tt
+
+pub run_more : (n span : ℕ) (list : List Limits) (J : List Entry) (entry : Entry) → IsRun n list J → 1 ≤ entry.space → entry.space ≤ n → IsOfTypes entry → ((its : Limits) → slice_get list (entry.space - 1) ≡ Some its → CanPass n its span entry J) → IsRun n list (entry ∷ J)
+run_more n span list J entry is low high typed can = record {
+  run = λ limits are. (
+    let passes = can (limits entry.space) (are entry.space low high) in
+        record { first = low; last = high; is_right = passes.right; arrives = given span entry.event J passes.arrives },
+    is.run limits are,
+  );
+  typed = (typed, is.typed);
+}
+
+-- ---- safety
+
+pub safe_of : (n : ℕ) (list : List Limits) (J : List Entry) → length list ≡ n → 1 ≤ n → IsRun n list J → IsSafe n J
+safe_of n [] J each some is = absurd (omega (arith, each, some))
+safe_of n (first ∷ rest) J each some is = safe_law n limits J (is.run limits are) is.typed
+  where
+    limits : ℕ → Limits
+    limits p = get_or (first ∷ rest) (p - 1) first
+
+    are : AreLimits n limits (first ∷ rest)
+    are p low high = got (first ∷ rest) (p - 1) first (omega (arith, each, low, high))
+      where
+        got : (xs : List Limits) (j : ℕ) (x : Limits) → j < length xs → slice_get xs j ≡ Some (get_or xs j x)
+        got [] j x less = absurd (omega (arith, less))
+        got (y ∷ ys) zero x less = refl
+        got (y ∷ ys) (suc j) x less = got ys j x (omega (arith, less))
+
+-- ---- what is kept
+
+pub placed_push : {X : Type 0} (holds : ℕ → X → Type 0) (xs : List X) (x : X) → ((i : ℕ) (y : X) → slice_get xs i ≡ Some y → holds i y) → holds (length xs) x → (i : ℕ) (y : X) → slice_get (xs ++ x ∷ []) i ≡ Some y → holds i y
+placed_push holds [] x all last zero y got = subst (holds zero) (let same : x ≡ y = cc in same) last
+placed_push holds [] x all last (suc i) y got = absurd cc
+placed_push holds (z ∷ xs) x all last zero y got = all zero y got
+placed_push holds (z ∷ xs) x all last (suc i) y got = placed_push (λ j. holds (suc j)) xs x (λ j w there. all (suc j) w there) last i y got
+
+-- the next place of each space is the first one
+pub places_none : (n : ℕ) → ArePlaces n [] (replicate n 1)
+places_none n = record { each = length-replicate n 1; next = λ p first last. at n (p - 1) (omega (arith, first, last)) }
+  where
+    at : (n k : ℕ) → k < n → slice_get (replicate n 1) k ≡ Some (0 + 1)
+    at zero k less = absurd (omega (arith, less))
+    at (suc n) zero less = refl
+    at (suc n) (suc k) less = at n k (omega (arith, less))
+
+-- nothing was passed yet
+pub rerun_none : (span : ℕ) (list : List Limits) (spaces : List Owner) (places : List ℕ) (recall : Recalled) → 1 ≤ length list → length list ≤ 32 → AreMembers (length list) list [] spaces → places ≡ replicate (length list) 1 → Recalls [] recall → IsRerun (begun span list) spaces places recall
+rerun_none span list spaces places recall some few members ones recalls = record {
+  some = some;
+  few = few;
+  each = refl;
+  run = record { run = λ limits are. tt; typed = tt };
+  sealed = tt;
+  sound = record { members = members; next = subst (ArePlaces (length list) []) (sym ones) (places_none (length list)); recalls = recalls };
+}
+
+-- one entry more was passed
+pub rerun_more : (old : Following) (dated : Dated) (spaces spaces' : List Owner) (places places' : List ℕ) (recall recall' : Recalled) → IsRerun old spaces places recall → old.fault ≡ None
+    → IsLive old.n old.limits (dated.entry ∷ journal_of old.passed) spaces' places' recall' → IsRun old.n old.limits (dated.entry ∷ journal_of old.passed) → CanPassBy old.n old.limits old.span dated (journal_of old.passed)
+    → IsRerun (with_dated dated old) spaces' places' recall'
+rerun_more old dated spaces spaces' places places' recall recall' is none live run can = record {
+  some = is.some;
+  few = is.few;
+  each = is.each;
+  run = subst (IsRun old.n old.limits) (sym (journal_more old.passed dated)) run;
+  sealed = sealed_more old.n old.passed dated is.sealed can.sealed;
+  sound = subst (λ (found : Option WatchFault). IsSound found old.n old.limits (journal_of (old.passed ++ dated ∷ [])) spaces' places' recall') (sym none)
+      (subst (λ (J : List Entry). IsLive old.n old.limits J spaces' places' recall') (sym (journal_more old.passed dated)) live);
+}
+
+-- it stops
+pub rerun_stopped : (old : Following) (fault : WatchFault) (spaces spaces' : List Owner) (places places' : List ℕ) (recall recall' : Recalled) → IsRerun old spaces places recall → IsRerun (with_fault fault old) spaces' places' recall'
+rerun_stopped old fault spaces spaces' places places' recall recall' is = record {
+  some = is.some;
+  few = is.few;
+  each = is.each;
+  run = is.run;
+  sealed = is.sealed;
+  sound = tt;
+}
+
+-- memory was wanted
+pub rerun_same : (old : Following) (spaces spaces' : List Owner) (places places' : List ℕ) (recall recall' : Recalled) → IsRerun old spaces places recall → old.fault ≡ None → IsLive old.n old.limits (journal_of old.passed) spaces' places' recall' → IsRerun old spaces' places' recall'
+rerun_same old spaces spaces' places places' recall recall' is none live = record {
+  some = is.some;
+  few = is.few;
+  each = is.each;
+  run = is.run;
+  sealed = is.sealed;
+  sound = subst (λ (found : Option WatchFault). IsSound found old.n old.limits (journal_of old.passed) spaces' places' recall') (sym none) live;
+}
+
+-- where nothing is wrong yet all that is kept stands for what was passed
+pub live_of : (old : Following) (spaces : List Owner) (places : List ℕ) (recall : Recalled) → IsRerun old spaces places recall → old.fault ≡ None → IsLive old.n old.limits (journal_of old.passed) spaces places recall
+live_of old spaces places recall is none = subst (λ (found : Option WatchFault). IsSound found old.n old.limits (journal_of old.passed) spaces places recall) none is.sound

@@ -1,0 +1,69 @@
+-- What is kept of a checker that follows.
+use Rattle.std.proofs.Common.{◌≡◌, ℕ, ◌≤◌, Bool, true, false, List, [], ◌∷◌, ◌++◌, length, Option, Some, None, refl, sym, ap, subst, ◌∙◌, arith}
+use Rattle.std.specs.Prelude.{Result, Ok, Err}
+use Rattle.nob_recall.specs.declared.fault.WatchError.{WatchError}
+use Rattle.nob_recall.specs.declared.fault.WatchError.TheVariants.{Fault, OutOfMemory}
+use Rattle.nob_recall.specs.declared.fault.WatchFault.{WatchFault}
+use Rattle.nob_recall.specs.declared.dated.Dated.{Dated}
+use Rattle.nob_recall.specs.declared.head.Upcoming.{Upcoming}
+use Rattle.nob_recall.specs.Dues.{AreOfSpaces, IsDue, IsTold as IsToldTo, with_passed, with_end}
+use Rattle.nob_recall.specs.Orders.{InOrder, AreAhead}
+use Rattle.nob_recall.proofs.Dues.{all_told, all_ended, all_passed, order_passed, passed_length, ended_length}
+use Rattle.std.proofs.lemmas.List.{length-set}
+use Rattle.nob_watch.specs.Reruns.{Following, Passes, PassesAfter, HasPassed}
+use Rattle.nob_watch.specs.Watches.{Watching, IsWatching, GoesOnBy, ended}
+
+-- what was passed, and how many spaces there are, where an entry wasn't passed
+same_passed : (old new : Following) (dated : Dated) (error : WatchError) → Passes old new dated (Err error) → (new.passed ≡ old.passed) × (new.n ≡ old.n)
+same_passed old new dated error is = by old.fault error is
+  where
+    by : (found : Option WatchFault) (error : WatchError) → PassesAfter found old new dated (Err error) → (new.passed ≡ old.passed) × (new.n ≡ old.n)
+    by (Some fault) error is = (ap (λ (f : Following). f.passed) is.1, ap (λ (f : Following). f.n) is.1)
+    by None (Fault fault) is = (ap (λ (f : Following). f.passed) is.1, ap (λ (f : Following). f.n) is.1)
+    by None OutOfMemory is = (ap (λ (f : Following). f.passed) is, ap (λ (f : Following). f.n) is)
+
+more_passed : (old new : Following) (dated : Dated) → Passes old new dated (Ok tt) → (new.passed ≡ old.passed ++ dated ∷ []) × (new.n ≡ old.n)
+more_passed old new dated is = by old.fault is
+  where
+    by : (found : Option WatchFault) → PassesAfter found old new dated (Ok tt) → (new.passed ≡ old.passed ++ dated ∷ []) × (new.n ≡ old.n)
+    by (Some fault) is = absurd (let clash = is.0 in cc)
+    by None is = (ap (λ (f : Following). f.passed) is.1, ap (λ (f : Following). f.n) is.1)
+
+-- where the same was passed, of as many spaces
+pub watching_same : (old new : Watching) → IsWatching old → new.following.passed ≡ old.following.passed → new.following.n ≡ old.following.n → new.heads ≡ old.heads → IsWatching new
+watching_same old new is passed n heads = record {
+  some = subst (λ (m : ℕ). 1 ≤ m) (sym n) is.some;
+  each = ap length heads ∙ is.each ∙ sym n;
+  ahead = subst (λ (hs : List Upcoming). AreAhead new.following.passed hs) (sym heads) (subst (λ (ds : List Dated). AreAhead ds old.heads) (sym passed) is.ahead);
+  in_order = subst InOrder (sym passed) is.in_order;
+}
+
+pub watching_told : (old new : Watching) (dated : Dated) → IsWatching old → new.following ≡ old.following → IsToldTo old.heads new.heads dated → IsWatching new
+watching_told old new dated is same told = record {
+  some = subst (λ (f : Following). 1 ≤ f.n) (sym same) is.some;
+  each = ap length told.new_is ∙ length-set old.heads _ _ ∙ is.each ∙ ap (λ (f : Following). f.n) (sym same);
+  ahead = subst (λ (hs : List Upcoming). AreAhead new.following.passed hs) (sym told.new_is) (subst (λ (f : Following). AreAhead f.passed _) (sym same) (all_told old.following.passed old.heads dated told.head is.ahead told.there told.can.0 told.can.1));
+  in_order = subst (λ (f : Following). InOrder f.passed) (sym same) is.in_order;
+}
+
+pub watching_ended : (old new : Watching) (p : ℕ) → IsWatching old → new.following ≡ old.following → new.heads ≡ with_end p old.heads → IsWatching new
+watching_ended old new p is same heads = record {
+  some = subst (λ (f : Following). 1 ≤ f.n) (sym same) is.some;
+  each = ap length heads ∙ ended_length p old.heads ∙ is.each ∙ ap (λ (f : Following). f.n) (sym same);
+  ahead = subst (λ (hs : List Upcoming). AreAhead new.following.passed hs) (sym heads) (subst (λ (f : Following). AreAhead f.passed (with_end p old.heads)) (sym same) (all_ended old.following.passed p old.heads is.ahead));
+  in_order = subst (λ (f : Following). InOrder f.passed) (sym same) is.in_order;
+}
+
+pub watching_on : (old new : Watching) (result : Result Bool WatchError) → IsWatching old → AreOfSpaces old.heads → GoesOnBy old.following new.following old.heads new.heads result → IsWatching new
+watching_on old new (Ok true) is spaces (dated, due, passes, heads) =
+    let more = more_passed old.following new.following dated passes in
+    record {
+      some = subst (λ (m : ℕ). 1 ≤ m) (sym more.1) is.some;
+      each = ap length heads ∙ passed_length dated.entry.space old.heads ∙ is.each ∙ sym more.1;
+      ahead = subst (λ (hs : List Upcoming). AreAhead new.following.passed hs) (sym heads) (subst (λ (ds : List Dated). AreAhead ds (with_passed dated.entry.space old.heads)) (sym more.0) (all_passed old.following.passed old.heads dated spaces is.ahead due));
+      in_order = subst InOrder (sym more.0) (order_passed old.following.passed old.heads dated is.ahead is.in_order due);
+    }
+watching_on old new (Ok false) is spaces (none, same, heads) = watching_same old new is (ap (λ (f : Following). f.passed) same) (ap (λ (f : Following). f.n) same) heads
+watching_on old new (Err error) is spaces (dated, due, passes, heads) =
+    let same = same_passed old.following new.following dated error passes in
+    watching_same old new is same.0 same.1 heads
