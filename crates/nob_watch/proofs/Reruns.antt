@@ -22,7 +22,9 @@ use Rattle.nob_model_invariant.specs.Typed.{IsOfTypes}
 use Rattle.nob_recall.specs.Next.{CanPass, place_of, stray_fault}
 use Rattle.nob_recall.specs.declared.fault.WatchFault.{WatchFault}
 use Rattle.nob_recall.specs.declared.fault.WatchFault.TheVariants as faults
-use Rattle.nob_recall.specs.Recalls.{Recalled, Recalls}
+use Rattle.nob_recall.specs.Recalls.{Recalled, Recalls, IsSame}
+use Rattle.nob_recall.specs.Tables.{TableStands}
+use Rattle.nob_recall.specs.declared.heard.Heard.{Heard}
 use Rattle.nob_recall.specs.Remembering.{ArrivesRemembered, memory}
 use Rattle.nob_recall.proofs.Forgetting.{remembered_were_transmitted}
 use Rattle.nob_space.specs.Spaces.{Owner, StandsFor, SameSpace, entry_of}
@@ -30,7 +32,7 @@ use Rattle.nob_recall.specs.declared.dated.Dated.{Dated}
 use Rattle.nob_recall.proofs.Dues.{placed, set_other}
 use Rattle.nob_watch.specs.Sealing.{is_whole_seal}
 use Rattle.nob_recall.specs.declared.dated.SegmentSeal.{SegmentSeal}
-use Rattle.nob_watch.specs.Reruns.{journal_of, is_sealed, AreSealed, AreLimits, IsMember, AreMembers, ArePlaces, IsRun, IsAnswered, IsAsked, IsSealFault, IsFaultBy, IsOriginFault, IsJudged, Following, begun, with_dated, with_fault, CanPassBy, IsLive, IsSound, IsRerun}
+use Rattle.nob_watch.specs.Reruns.{journal_of, is_sealed, AreSealed, AreLimits, IsMember, AreMembers, ArePlaces, IsRun, IsAnswered, IsAsked, IsSealFault, IsFaultBy, IsOriginFault, IsJudged, Following, begun, with_dated, with_fault, CanPassBy, IsLive, IsSound, IsRerun, HasTaken}
 
 -- ---- journals
 
@@ -210,7 +212,7 @@ pub judged_stray : (n : ℕ) (list : List Limits) (span : ℕ) (dated : Dated) (
 judged_stray n list span dated J spaces place fault same is holds answered origin =
     let so = subst (IsAnswered n list J spaces dated.entry) holds answered in
     λ its there. inl (inr (record {
-      right = so.1.1 its there;
+      right = so.2 its there;
       frame = origin.0;
       arrives = origin.1;
       stray = (origin.2.0, origin.2.1 ∙ ap (stray_fault origin.0 J dated.entry.space) is);
@@ -221,10 +223,10 @@ pub judged_seal : {E : Type 0} (n : ℕ) (list : List Limits) (recall : Recalled
     → same ≡ true → IsAnswered n list J spaces dated.entry same → IsOriginFault recall.span dated.entry J place None → IsSealFault n dated (dated.entry ∷ J) found → IsJudged {E = E} n list J spaces recall dated (Ok found)
 judged_seal n list recall dated J spaces place None same holds answered origin sealed =
     let so = subst (IsAnswered n list J spaces dated.entry) holds answered in
-    (so.0, so.1.0, record { can = λ its there. record { right = so.1.1 its there; arrives = origin }; sealed = sealed })
+    (so.0, so.1, record { can = λ its there. record { right = so.2 its there; arrives = origin }; sealed = sealed })
 judged_seal n list recall dated J spaces place (Some fault) same holds answered origin sealed =
     let so = subst (IsAnswered n list J spaces dated.entry) holds answered in
-    λ its there. inr (record { right = so.1.1 its there; arrives = origin }, sealed)
+    λ its there. inr (record { right = so.2 its there; arrives = origin }, sealed)
 
 -- the place that is kept is that of the next entry
 pub place_is : (n : ℕ) (J : List Entry) (places : List ℕ) (entry : Entry) (k place : ℕ) → ArePlaces n J places → k ≡ entry.space - 1 → 1 ≤ entry.space → entry.space ≤ length places → place ≡ get_or places k place → place ≡ place_of entry J
@@ -370,3 +372,30 @@ rerun_same old spaces spaces' places places' recall recall' is none live = recor
 -- where nothing is wrong yet all that is kept stands for what was passed
 pub live_of : (old : Following) (spaces : List Owner) (places : List ℕ) (recall : Recalled) → IsRerun old spaces places recall → old.fault ≡ None → IsLive old.n old.limits (journal_of old.passed) spaces places recall
 live_of old spaces places recall is none = subst (λ (found : Option WatchFault). IsSound found old.n old.limits (journal_of old.passed) spaces places recall) none is.sound
+
+-- the same is remembered, whatever the room
+recalls_same : (J : List Entry) (old new : Recalled) → IsSame old new → Recalls J old → Recalls J new
+recalls_same J old new same is = record {
+  memory_is = same.memory_is ∙ is.memory_is ∙ ap (λ (span : ℕ). memory span J) (sym same.span);
+  table = subst (λ (t : List Heard). TableStands t J) (sym same.table) is.table;
+}
+
+pub live_same : (n : ℕ) (list : List Limits) (J : List Entry) (spaces : List Owner) (places : List ℕ) (old new : Recalled) → IsSame old new → IsLive n list J spaces places old → IsLive n list J spaces places new
+live_same n list J spaces places old new same is = record { members = is.members; next = is.next; recalls = recalls_same J old new same is.recalls }
+
+-- where there are spaces and places for an entry
+pub spaces_here : (n p : ℕ) (list : List Limits) (J : List Entry) (spaces : List Owner) (places : List ℕ) (recall : Recalled) → p ≤ n → IsLive n list J spaces places recall → p ≤ length spaces
+spaces_here n p list J spaces places recall high is = subst (λ (m : ℕ). p ≤ m) (sym is.members.each) high
+
+pub places_here : (n p : ℕ) (list : List Limits) (J : List Entry) (spaces : List Owner) (places : List ℕ) (recall : Recalled) → p ≤ n → IsLive n list J spaces places recall → p ≤ length places
+places_here n p list J spaces places recall high is = subst (λ (m : ℕ). p ≤ m) (sym is.next.each) high
+
+-- what comes of an entry that was judged, and entered where nothing is wrong
+pub taken_ok : (n : ℕ) (list : List Limits) (J : List Entry) (dated : Dated) (spaces : List Owner) (places places' : List ℕ) (old recall recall' : Recalled) → 1 ≤ dated.entry.space → dated.entry.space ≤ n
+    → IsSame old recall → IsLive n list J spaces places old → IsRun n list J → {E : Type 0} (spaces' : List Owner) → IsJudged {E = E} n list J spaces' recall dated (Ok None)
+    → (ArePlaces n J places → ArePlaces n (dated.entry ∷ J) places') → (Recalls J recall → Recalls (dated.entry ∷ J) recall')
+    → HasTaken n list J old.span dated spaces' places' recall' (Ok tt)
+taken_ok n list J dated spaces places places' old recall recall' low high same live run spaces' judged places_on recalls_on =
+    let can : CanPassBy n list old.span dated J = subst (λ (span : ℕ). CanPassBy n list span dated J) same.span judged.2 in
+    (record { members = judged.0; next = places_on live.next; recalls = recalls_on (recalls_same J old recall same live.recalls) },
+    run_more n old.span list J dated.entry run low high judged.1 can.can, can)

@@ -1,17 +1,21 @@
 -- What is kept of a checker that follows.
-use Rattle.std.proofs.Common.{◌≡◌, ℕ, ◌≤◌, Bool, true, false, List, [], ◌∷◌, ◌++◌, length, Option, Some, None, refl, sym, ap, subst, ◌∙◌, arith}
-use Rattle.std.specs.Prelude.{Result, Ok, Err}
+use Rattle.std.proofs.Common.{◌≡◌, ℕ, ◌+◌, ◌-◌, ◌≤◌, Bool, true, false, ◌||◌, List, [], ◌∷◌, ◌++◌, length, replicate, slice_get, Option, Some, None, refl, sym, ap, subst, ◌∙◌, arith}
+use Rattle.std.specs.Prelude.{Result, Ok, Err, IfOk}
+use Rattle.std.specs.List.{list_any}
+use Rattle.std.proofs.lemmas.Bool.Decides.{nat_tests}
+use Rattle.nob_model_traces.specs.declared.moment.Moment.{Moment}
+use Rattle.nob_model_traces.specs.Merged.{is_earlier}
 use Rattle.nob_recall.specs.declared.fault.WatchError.{WatchError}
 use Rattle.nob_recall.specs.declared.fault.WatchError.TheVariants.{Fault, OutOfMemory}
 use Rattle.nob_recall.specs.declared.fault.WatchFault.{WatchFault}
 use Rattle.nob_recall.specs.declared.dated.Dated.{Dated}
 use Rattle.nob_recall.specs.declared.head.Upcoming.{Upcoming}
-use Rattle.nob_recall.specs.Dues.{AreOfSpaces, IsDue, IsTold as IsToldTo, with_passed, with_end}
+use Rattle.nob_recall.specs.Dues.{AreOfSpaces, IsDue, IsTold as IsToldTo, with_passed, with_end, no_head, earliest, may_come}
 use Rattle.nob_recall.specs.Orders.{InOrder, AreAhead}
-use Rattle.nob_recall.proofs.Dues.{all_told, all_ended, all_passed, order_passed, passed_length, ended_length}
-use Rattle.std.proofs.lemmas.List.{length-set}
+use Rattle.nob_recall.proofs.Dues.{IsNoEarlier, least, found_at, due_at, all_none, all_told, all_ended, all_passed, order_passed, passed_length, ended_length}
+use Rattle.std.proofs.lemmas.List.{length-set, length-replicate}
 use Rattle.nob_watch.specs.Reruns.{Following, Passes, PassesAfter, HasPassed}
-use Rattle.nob_watch.specs.Watches.{Watching, IsWatching, GoesOnBy, ended}
+use Rattle.nob_watch.specs.Watches.{Watching, IsWatching, AreUpToLowest, GoesOnBy, ended}
 
 -- what was passed, and how many spaces there are, where an entry wasn't passed
 same_passed : (old new : Following) (dated : Dated) (error : WatchError) → Passes old new dated (Err error) → (new.passed ≡ old.passed) × (new.n ≡ old.n)
@@ -67,3 +71,57 @@ watching_on old new (Ok false) is spaces (none, same, heads) = watching_same old
 watching_on old new (Err error) is spaces (dated, due, passes, heads) =
     let same = same_passed old.following new.following dated error passes in
     watching_same old new is same.0 same.1 heads
+
+-- nothing was told yet
+pub watching_none : (following : Following) (count : ℕ) (heads : List Upcoming) → following.passed ≡ [] → following.n ≡ count → 1 ≤ count → heads ≡ replicate count no_head → IsWatching (record { following = following; heads = heads })
+watching_none following count heads none n some is = record {
+  some = subst (λ (m : ℕ). 1 ≤ m) (sym n) some;
+  each = ap length is ∙ length-replicate count no_head ∙ sym n;
+  ahead = subst (λ (hs : List Upcoming). AreAhead following.passed hs) (sym is) (subst (λ (ds : List Dated). AreAhead ds (replicate count no_head)) (sym none) (all_none count));
+  in_order = subst InOrder (sym none) tt;
+}
+
+-- ---- up to the lowest last stamp
+
+any_later : (low high : ℕ) (heads : List Upcoming) → low ≤ high → list_any (may_come low) heads ≡ true → list_any (may_come high) heads ≡ true
+any_later low high [] most is = absurd cc
+any_later low high (head ∷ heads) most is = by (may_come low head) refl is
+  where
+    by : (b : Bool) → may_come low head ≡ b → (b || list_any (may_come low) heads) ≡ true → (may_come high head || list_any (may_come high) heads) ≡ true
+    by true its any = ap (λ (b : Bool). b || list_any (may_come high) heads) (let still : may_come high head ≡ true = grind (arith, nat_tests, its, most) in still)
+    by false its any = later (may_come high head) (any_later low high heads most any)
+      where
+        later : (b : Bool) → list_any (may_come high) heads ≡ true → (b || list_any (may_come high) heads) ≡ true
+        later true rest = refl
+        later false rest = rest
+
+-- where none is due
+pub up_to_lowest : (heads : List Upcoming) → AreOfSpaces heads → ((dated : Dated) → IsDue heads dated → ⊥) → AreUpToLowest heads
+up_to_lowest heads are none place head dated there next = by (earliest 1 heads) refl
+  where
+    own : Moment
+    own = record { stamp = dated.stamp; space = 1 + place }
+
+    first : IsNoEarlier (earliest 1 heads) own
+    first = least 1 heads place head dated there next
+
+    by : (found : Option Moment) → earliest 1 heads ≡ found → list_any (may_come dated.stamp) heads ≡ true
+    by None is = absurd (subst (λ (o : Option Moment). IsNoEarlier o own) is first)
+    by (Some moment) is = of (list_any (may_come moment.stamp) heads) refl
+      where
+        low : moment.stamp ≤ dated.stamp
+        low = let no : is_earlier own moment ≡ false = subst (λ (o : Option Moment). IsNoEarlier o own) is first in grind (arith, nat_tests, no)
+
+        of : (t : Bool) → list_any (may_come moment.stamp) heads ≡ t → list_any (may_come dated.stamp) heads ≡ true
+        of true some = any_later moment.stamp dated.stamp heads low some
+        of false nothing =
+            let at = found_at 1 heads moment is in
+            let here : moment.space ≡ 1 + at.place = ap (λ (m : Moment). m.space) at.moment_is in
+            let place_is : at.place ≡ moment.space - 1 = omega (arith, here) in
+            absurd (none at.dated (due_at heads moment at.head at.dated are is nothing (sym (ap (slice_get heads) place_is) ∙ at.there) at.next))
+
+-- whatever came of going on
+pub cut_at : (old new : Watching) (result : Result Bool WatchError) → AreOfSpaces old.heads → GoesOnBy old.following new.following old.heads new.heads result → IfOk result (λ went. went ≡ false → AreUpToLowest new.heads)
+cut_at old new (Ok true) are goes = λ went. absurd cc
+cut_at old new (Ok false) are (none, same, heads) = λ went. subst AreUpToLowest (sym heads) (up_to_lowest old.heads are none)
+cut_at old new (Err error) are goes = tt

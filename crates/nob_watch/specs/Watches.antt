@@ -1,9 +1,10 @@
 -- A run that is followed, and the next entry of each space: which is passed, and what comes of it.
-use Rattle.std.specs.Prelude.{◌≡◌, ◌≤◌, ℕ, Bool, true, false, List, length, Result, Ok, Err}
+use Rattle.std.specs.Prelude.{◌≡◌, ◌≤◌, ℕ, Bool, true, false, List, length, slice_get, Some, Result, Ok, Err}
+use Rattle.std.specs.List.{list_any}
 use Rattle.nob_recall.specs.declared.fault.WatchError.{WatchError}
 use Rattle.nob_recall.specs.declared.dated.Dated.{Dated}
 use Rattle.nob_recall.specs.declared.head.Upcoming.{Upcoming}
-use Rattle.nob_recall.specs.Dues.{with_end, with_passed, IsTold as IsToldTo, IsDue}
+use Rattle.nob_recall.specs.Dues.{with_end, with_passed, IsTold as IsToldTo, IsDue, may_come}
 use Rattle.nob_recall.specs.Orders.{InOrder, AreAhead}
 use Rattle.nob_watch.specs.Reruns.{Following, Passes}
 
@@ -27,6 +28,10 @@ pub record IsTold (old new : Watching) (dated : Dated) : Type 0 where
 -- space p has no more entries than those that were told
 abbrev pub ended : ℕ → Watching → Watching
 ended p watching = record { following = watching.following; heads = with_end p watching.heads }
+
+-- all is passed up to the lowest of the last stamps: where the next entry of a space wasn't passed, another space may still have one of that stamp or a lower one
+abbrev pub AreUpToLowest : List Upcoming → Type 0
+AreUpToLowest heads = (place : ℕ) (head : Upcoming) (dated : Dated) → slice_get heads place ≡ Some head → head.next ≡ Some dated → list_any (may_come dated.stamp) heads ≡ true
 
 -- what comes of going on, to the run and to the next entries: the entry that is due is passed, or not; or none is due, and nothing has changed
 abbrev pub GoesOnBy : (old new : Following) → (heads after : List Upcoming) → Result Bool WatchError → Type 0

@@ -1,6 +1,6 @@
 //! The checker that follows.
 
-ghost use Rattle.std.specs.Prelude.{◌≡◌, ◌≤◌, ℕ, length, reverse, replicate, IfOk, IfErr, OnOk, OnErr};
+ghost use Rattle.std.specs.Prelude.{◌≡◌, ◌≤◌, ℕ, false, length, reverse, replicate, IfOk, IfErr, OnOk, OnErr};
 ghost use Rattle.nob_ids.specs.declared.limits.Limits.{Limits as LimitsOf};
 ghost use Rattle.nob_model_journal.specs.Runs.{WorldRun};
 ghost use Rattle.nob_model_invariant.specs.Safe.{IsSafe};
@@ -122,7 +122,8 @@ impl Watch {
     /// `Rerun::pass` says it, and again from then on; or memory is wanted, and then nothing has
     /// changed. Linear in the spaces, and what the entry costs.
     pub fn go_on(&mut self) -> Result<bool, WatchError>
-        ensures { words.GoesOn self.old self.new result }
+        ensures goes_on { words.GoesOn self.old self.new result }
+        ensures cut { IfOk result (λ went. went ≡ false → words.AreUpToLowest self.new.heads) }
     {
         pass_due(&mut self.rerun, &mut self.heads)
     }
