@@ -290,20 +290,21 @@ run_more n span list J entry is low high typed can = record {
 
 -- ---- safety
 
+-- the limits of each space, by a list of them that isn't empty
+abbrev limits_by : Limits → List Limits → ℕ → Limits
+limits_by first list p = get_or list (p - 1) first
+
+limits_got : (list : List Limits) (j : ℕ) (first : Limits) → j < length list → slice_get list j ≡ Some (get_or list j first)
+limits_got [] j first less = absurd (omega (arith, less))
+limits_got (own ∷ list) zero first less = refl
+limits_got (own ∷ list) (suc j) first less = limits_got list j first (omega (arith, less))
+
+limits_are : (n : ℕ) (first : Limits) (list : List Limits) → length list ≡ n → AreLimits n (limits_by first list) list
+limits_are n first list each p low high = limits_got list (p - 1) first (omega (arith, each, low, high))
+
 pub safe_of : (n : ℕ) (list : List Limits) (J : List Entry) → length list ≡ n → 1 ≤ n → IsRun n list J → IsSafe n J
 safe_of n [] J each some is = absurd (omega (arith, each, some))
-safe_of n (first ∷ rest) J each some is = safe_law n limits J (is.run limits are) is.typed
-  where
-    limits : ℕ → Limits
-    limits p = get_or (first ∷ rest) (p - 1) first
-
-    are : AreLimits n limits (first ∷ rest)
-    are p low high = got (first ∷ rest) (p - 1) first (omega (arith, each, low, high))
-      where
-        got : (xs : List Limits) (j : ℕ) (x : Limits) → j < length xs → slice_get xs j ≡ Some (get_or xs j x)
-        got [] j x less = absurd (omega (arith, less))
-        got (y ∷ ys) zero x less = refl
-        got (y ∷ ys) (suc j) x less = got ys j x (omega (arith, less))
+safe_of n (first ∷ rest) J each some is = safe_law n (limits_by first (first ∷ rest)) J (is.run (limits_by first (first ∷ rest)) (limits_are n first (first ∷ rest) each)) is.typed
 
 -- ---- what is kept
 
@@ -312,6 +313,19 @@ placed_push holds [] x all last zero y got = subst (holds zero) (let same : x �
 placed_push holds [] x all last (suc i) y got = absurd cc
 placed_push holds (z ∷ xs) x all last zero y got = all zero y got
 placed_push holds (z ∷ xs) x all last (suc i) y got = placed_push (λ j. holds (suc j)) xs x (λ j w there. all (suc j) w there) last i y got
+
+-- a space that did nothing
+pub member_new : (n : ℕ) (list : List Limits) (id k : ℕ) (own : Limits) (space : Owner) → k ≡ id - 1 → 1 ≤ id → id ≤ length list → own ≡ get_or list k own → space.id ≡ id → space.n ≡ n → space.limits ≡ own → StandsFor space [] → IsMember n list [] id space
+member_new n list id k own space number low high is its_id its_n its_limits stands = record {
+  id = its_id;
+  count = its_n;
+  its_limits = read_there list id k own number low high is ∙ ap Some (sym its_limits);
+  stands = stands;
+}
+
+-- one more behind the others
+pub members_push : (n : ℕ) (list : List Limits) (spaces : List Owner) (space : Owner) → ((place : ℕ) (own : Owner) → slice_get spaces place ≡ Some own → IsMember n list [] (place + 1) own) → IsMember n list [] (length spaces + 1) space → (place : ℕ) (own : Owner) → slice_get (spaces ++ space ∷ []) place ≡ Some own → IsMember n list [] (place + 1) own
+members_push n list spaces space all last = placed_push (λ place own. IsMember n list [] (place + 1) own) spaces space all last
 
 -- the next place of each space is the first one
 pub places_none : (n : ℕ) → ArePlaces n [] (replicate n 1)

@@ -1,7 +1,8 @@
 -- What is kept of a checker that follows.
-use Rattle.std.proofs.Common.{◌≡◌, ℕ, ◌+◌, ◌-◌, ◌≤◌, Bool, true, false, ◌||◌, List, [], ◌∷◌, ◌++◌, length, replicate, slice_get, Option, Some, None, refl, sym, ap, subst, ◌∙◌, arith}
-use Rattle.std.specs.Prelude.{Result, Ok, Err, IfOk}
+use Rattle.std.proofs.Common.{◌≡◌, ℕ, ◌+◌, ◌-◌, ◌≤◌, Bool, true, false, ◌&&◌, ◌||◌, nat_lt, List, [], ◌∷◌, ◌++◌, length, replicate, slice_get, Option, Some, None, refl, sym, ap, subst, ◌∙◌, arith}
+use Rattle.std.specs.Prelude.{Result, Ok, Err, IfOk, OnOk, OnErr}
 use Rattle.std.specs.List.{list_any}
+use Rattle.std.proofs.lemmas.Bool.{and_parts}
 use Rattle.std.proofs.lemmas.Bool.Decides.{nat_tests}
 use Rattle.nob_model_traces.specs.declared.moment.Moment.{Moment}
 use Rattle.nob_model_traces.specs.Merged.{is_earlier}
@@ -10,7 +11,7 @@ use Rattle.nob_recall.specs.declared.fault.WatchError.TheVariants.{Fault, OutOfM
 use Rattle.nob_recall.specs.declared.fault.WatchFault.{WatchFault}
 use Rattle.nob_recall.specs.declared.dated.Dated.{Dated}
 use Rattle.nob_recall.specs.declared.head.Upcoming.{Upcoming}
-use Rattle.nob_recall.specs.Dues.{AreOfSpaces, IsDue, IsTold as IsToldTo, with_passed, with_end, no_head, earliest, may_come}
+use Rattle.nob_recall.specs.Dues.{AreOfSpaces, IsDue, IsTold as IsToldTo, with_passed, with_end, no_head, earliest, is_wanted, may_come}
 use Rattle.nob_recall.specs.Orders.{InOrder, AreAhead}
 use Rattle.nob_recall.proofs.Dues.{IsNoEarlier, least, found_at, due_at, all_none, all_told, all_ended, all_passed, order_passed, passed_length, ended_length}
 use Rattle.std.proofs.lemmas.List.{length-set, length-replicate}
@@ -50,6 +51,11 @@ watching_told old new dated is same told = record {
   in_order = subst (λ (f : Following). InOrder f.passed) (sym same) is.in_order;
 }
 
+-- what was told, or handed back
+pub watching_tell : (old new : Watching) (dated : Dated) (result : Result Unit Dated) → IsWatching old → new.following ≡ old.following → OnOk result (IsToldTo old.heads new.heads dated) → OnErr result (new.heads ≡ old.heads) → IsWatching new
+watching_tell old new dated (Ok done) is same told err = watching_told old new dated is same told
+watching_tell old new dated (Err back) is same told err = watching_same old new is (ap (λ (f : Following). f.passed) same) (ap (λ (f : Following). f.n) same) err
+
 pub watching_ended : (old new : Watching) (p : ℕ) → IsWatching old → new.following ≡ old.following → new.heads ≡ with_end p old.heads → IsWatching new
 watching_ended old new p is same heads = record {
   some = subst (λ (f : Following). 1 ≤ f.n) (sym same) is.some;
@@ -87,38 +93,39 @@ any_later : (low high : ℕ) (heads : List Upcoming) → low ≤ high → list_a
 any_later low high [] most is = absurd cc
 any_later low high (head ∷ heads) most is = by (may_come low head) refl is
   where
+    later : (b : Bool) → list_any (may_come high) heads ≡ true → (b || list_any (may_come high) heads) ≡ true
+    later true rest = refl
+    later false rest = rest
+
     by : (b : Bool) → may_come low head ≡ b → (b || list_any (may_come low) heads) ≡ true → (may_come high head || list_any (may_come high) heads) ≡ true
-    by true its any = ap (λ (b : Bool). b || list_any (may_come high) heads) (let still : may_come high head ≡ true = grind (arith, nat_tests, its, most) in still)
+    by true its any =
+        let parts = and_parts (is_wanted head) (nat_lt head.last low) its in
+        let before = parts.1 in
+        let less : nat_lt head.last high ≡ true = grind (arith, nat_tests, before, most) in
+        λ i. (parts.0 i && less i) || list_any (may_come high) heads
     by false its any = later (may_come high head) (any_later low high heads most any)
-      where
-        later : (b : Bool) → list_any (may_come high) heads ≡ true → (b || list_any (may_come high) heads) ≡ true
-        later true rest = refl
-        later false rest = rest
 
 -- where none is due
 pub up_to_lowest : (heads : List Upcoming) → AreOfSpaces heads → ((dated : Dated) → IsDue heads dated → ⊥) → AreUpToLowest heads
 up_to_lowest heads are none place head dated there next = by (earliest 1 heads) refl
   where
-    own : Moment
-    own = record { stamp = dated.stamp; space = 1 + place }
-
-    first : IsNoEarlier (earliest 1 heads) own
+    first : IsNoEarlier (earliest 1 heads) (record { stamp = dated.stamp; space = 1 + place })
     first = least 1 heads place head dated there next
 
-    by : (found : Option Moment) → earliest 1 heads ≡ found → list_any (may_come dated.stamp) heads ≡ true
-    by None is = absurd (subst (λ (o : Option Moment). IsNoEarlier o own) is first)
-    by (Some moment) is = of (list_any (may_come moment.stamp) heads) refl
-      where
-        low : moment.stamp ≤ dated.stamp
-        low = let no : is_earlier own moment ≡ false = subst (λ (o : Option Moment). IsNoEarlier o own) is first in grind (arith, nat_tests, no)
+    of : (moment : Moment) → earliest 1 heads ≡ Some moment → moment.stamp ≤ dated.stamp → (t : Bool) → list_any (may_come moment.stamp) heads ≡ t → list_any (may_come dated.stamp) heads ≡ true
+    of moment is low true some = any_later moment.stamp dated.stamp heads low some
+    of moment is low false nothing =
+        let at = found_at 1 heads moment is in
+        let here : moment.space ≡ 1 + at.place = ap (λ (m : Moment). m.space) at.moment_is in
+        let place_is : at.place ≡ moment.space - 1 = omega (arith, here) in
+        absurd (none at.dated (due_at heads moment at.head at.dated are is nothing (sym (ap (slice_get heads) place_is) ∙ at.there) at.next))
 
-        of : (t : Bool) → list_any (may_come moment.stamp) heads ≡ t → list_any (may_come dated.stamp) heads ≡ true
-        of true some = any_later moment.stamp dated.stamp heads low some
-        of false nothing =
-            let at = found_at 1 heads moment is in
-            let here : moment.space ≡ 1 + at.place = ap (λ (m : Moment). m.space) at.moment_is in
-            let place_is : at.place ≡ moment.space - 1 = omega (arith, here) in
-            absurd (none at.dated (due_at heads moment at.head at.dated are is nothing (sym (ap (slice_get heads) place_is) ∙ at.there) at.next))
+    by : (found : Option Moment) → earliest 1 heads ≡ found → list_any (may_come dated.stamp) heads ≡ true
+    by None is = absurd (subst (λ (o : Option Moment). IsNoEarlier o (record { stamp = dated.stamp; space = 1 + place })) is first)
+    by (Some moment) is =
+        let no : is_earlier (record { stamp = dated.stamp; space = 1 + place }) moment ≡ false = subst (λ (o : Option Moment). IsNoEarlier o (record { stamp = dated.stamp; space = 1 + place })) is first in
+        let low : moment.stamp ≤ dated.stamp = grind (arith, nat_tests, no) in
+        of moment is low (list_any (may_come moment.stamp) heads) refl
 
 -- whatever came of going on
 pub cut_at : (old new : Watching) (result : Result Bool WatchError) → AreOfSpaces old.heads → GoesOnBy old.following new.following old.heads new.heads result → IfOk result (λ went. went ≡ false → AreUpToLowest new.heads)
