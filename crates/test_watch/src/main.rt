@@ -1,16 +1,13 @@
-//! The program `test_watch`: what a checker that follows says of chains and traces, and what the
-//! definitions say. It reads both from standard input, and turns after so many frames as the word of
-//! its command line says, 4 without one. It is slow on purpose.
+//! A test of a checker that follows: it is told the chains and traces of standard input side by
+//! side, and says how many entries it passed, or what stopped it. The first word of the command
+//! line says after how many frames a turn comes, 1,024 without one.
 #![tactic(auto)]
 
-mod plainly;
 mod watching;
 
-use crate::plainly::stopped_plainly;
 use crate::watching::stopped;
-use nob_chain::{Chain, ChainError, decode_all, refusal_line};
-use nob_model_chains::are_one_each;
-use nob_recall::{WatchError, WatchFault};
+use nob_chain::{decode_all, refusal_line};
+use nob_watch::WatchError;
 use std::alloc::Global;
 use std::io::{Read, Write};
 use std::process::ExitCode;
@@ -26,7 +23,7 @@ fn main(rt: HostRuntime) -> ExitCode {
 // Reads all of standard input, and writes what is said of it.
 fn run(rt: &HostRuntime) -> io::Result<()> {
     let alloc = rt.alloc();
-    let mut span = 4usize;
+    let mut span = 1024usize;
     for word in env::args(rt)?.skip(1) {
         if let Ok(number) = word.as_str().parse::<usize>() {
             span = number;
@@ -34,39 +31,21 @@ fn run(rt: &HostRuntime) -> io::Result<()> {
     }
     let mut input = Vec::new(alloc);
     rt.stdin().read_to_end(&mut input)?;
-    let mut text = Vec::new(alloc);
     match decode_all(alloc, input.as_slice()) {
-        Ok(chains) => write_set(alloc, span, chains, &mut text)?,
-        Err(error) => text.extend_from_slice(refusal_line(error))?,
+        Ok(chains) => {
+            let told = stopped(alloc, span, chains);
+            let line = line_of(alloc, told)?;
+            rt.stdout().write_all(line.as_bytes())
+        }
+        Err(error) => rt.stdout().write_all(refusal_line(error)),
     }
-    rt.stdout().write_all(text.as_slice())
-}
-
-// What is said of these chains.
-fn write_set(alloc: Global, span: usize, chains: Vec<Chain>, text: &mut Vec<u8>) -> io::Result<()> {
-    if !are_one_each(chains.as_slice()) {
-        text.extend_from_slice(b"C4\n")?;
-        return Ok(());
-    }
-    let plain = stopped_plainly(alloc, span, chains.as_slice());
-    let told = stopped(alloc, span, chains);
-    write_stop(alloc, "definitions", &plain, text)?;
-    write_stop(alloc, "watch", &told, text)?;
-    Ok(())
 }
 
 // How many entries were passed, or what stopped them.
-fn write_stop(
-    alloc: Global,
-    who: &str,
-    stop: &Result<u64, WatchError>,
-    text: &mut Vec<u8>,
-) -> io::Result<()> {
-    let line = match stop {
-        Ok(count) => format!(in alloc; "{who}: passed {count}\n")?,
-        Err(WatchError::OutOfMemory) => format!(in alloc; "{who}: memory\n")?,
-        Err(WatchError::Fault(fault)) => format!(in alloc; "{who}: {fault}\n")?,
-    };
-    text.extend_from_slice(line.as_bytes())?;
-    Ok(())
+fn line_of(alloc: Global, told: Result<u64, WatchError>) -> io::Result<String> {
+    Ok(match told {
+        Ok(count) => format!(in alloc; "passed {count}\n")?,
+        Err(WatchError::OutOfMemory) => format!(in alloc; "memory\n")?,
+        Err(WatchError::Fault(fault)) => format!(in alloc; "{fault}\n")?,
+    })
 }
