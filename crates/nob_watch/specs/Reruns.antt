@@ -13,8 +13,9 @@ use Rattle.nob_recall.specs.declared.fault.WatchError.{WatchError}
 use Rattle.nob_recall.specs.declared.fault.WatchError.TheVariants.{Fault, OutOfMemory}
 use Rattle.nob_recall.specs.declared.fault.WatchFault.{WatchFault}
 use Rattle.nob_recall.specs.declared.fault.WatchFault.TheVariants as faults
-use Rattle.nob_space.specs.Spaces.{Owner, StandsFor}
+use Rattle.nob_space.specs.Spaces.{Owner}
 use Rattle.nob_watch.specs.Sealing.{is_whole_seal}
+use Rattle.nob_watch.specs.Members.{AreLimits, AreMembers, ArePlaces, IsAnswered}
 use Rattle.nob_recall.specs.declared.dated.Dated.{Dated}
 use Rattle.nob_recall.specs.declared.dated.SegmentSeal.{SegmentSeal}
 use Rattle.nob_recall.specs.Recalls.{Recalled, Recalls}
@@ -32,27 +33,6 @@ is_sealed n stamp space J (Some own) = is_whole_seal space n stamp (at space J) 
 abbrev pub AreSealed : ℕ → List Dated → Type 0
 AreSealed n [] = ⊤
 AreSealed n (dated ∷ earlier) = (is_sealed n dated.stamp dated.entry.space (map (λ d. d.entry) (dated ∷ earlier)) dated.seal ≡ true) × AreSealed n earlier
-
--- these are the limits of each of n spaces, by a list of them: those of space p at place p - 1
-abbrev pub AreLimits : ℕ → (ℕ → Limits) → List Limits → Type 0
-AreLimits n limits list = (p : ℕ) → 1 ≤ p → p ≤ n → slice_get list (p - 1) ≡ Some (limits p)
-
--- space p of a world: its number, how many there are, its limits, and what it stands for: its own entries
-pub record IsMember (n : ℕ) (list : List Limits) (J : List Entry) (p : ℕ) (space : Owner) : Type 0 where
-  pub id : space.id ≡ p
-  pub count : space.n ≡ n
-  pub its_limits : slice_get list (p - 1) ≡ Some space.limits
-  pub stands : StandsFor space (at p J)
-
--- the spaces of a world: space p at place p - 1
-pub record AreMembers (n : ℕ) (list : List Limits) (J : List Entry) (spaces : List Owner) : Type 0 where
-  pub each : length spaces ≡ n
-  pub stand : (place : ℕ) (space : Owner) → slice_get spaces place ≡ Some space → IsMember n list J (place + 1) space
-
--- the place of the next entry of each space, counted from 1: that of space p at place p - 1
-pub record ArePlaces (n : ℕ) (J : List Entry) (places : List ℕ) : Type 0 where
-  pub each : length places ≡ n
-  pub next : (p : ℕ) → 1 ≤ p → p ≤ n → slice_get places (p - 1) ≡ Some (length (at p J) + 1)
 
 -- all that is kept stands for a journal
 pub record IsLive (n : ℕ) (list : List Limits) (J : List Entry) (spaces : List Owner) (places : List ℕ) (recall : Recalled) : Type 0 where
@@ -131,16 +111,6 @@ Passes old new dated result = PassesAfter old.fault old new dated result
 abbrev pub IsOriginFault : ℕ → Entry → List Entry → ℕ → Option WatchFault → Type 0
 IsOriginFault span entry J place None = ArrivesRemembered span entry.event J
 IsOriginFault span entry J place (Some fault) = (frame : Frame) × (entry.event ≡ events.Arrive frame) × IsArrivalFault span frame J entry.space place (Some fault)
-
--- what a space that was asked answered: so, and the spaces stand for the entry too; or otherwise
-abbrev pub IsAnswered : ℕ → List Limits → List Entry → List Owner → Entry → Bool → Type 0
-IsAnswered n list J spaces entry true = AreMembers n list (entry ∷ J) spaces × IsOfTypes entry × ((its : Limits) → slice_get list (entry.space - 1) ≡ Some its → IsRightNext n its entry J)
-IsAnswered n list J spaces entry false = (its : Limits) → slice_get list (entry.space - 1) ≡ Some its → IsRightNext n its entry J → ⊥
-
--- the same, or memory was wanted, and the spaces stand for what they did
-abbrev pub IsAsked : {E : Type 0} → ℕ → List Limits → List Entry → List Owner → Entry → Result Bool E → Type 0
-IsAsked n list J spaces entry (Ok same) = IsAnswered n list J spaces entry same
-IsAsked n list J spaces entry (Err error) = AreMembers n list J spaces
 
 -- what is found of the next entry, once its space was asked: nothing is wrong with it, and the spaces stand for it too; or this is wrong; or memory was wanted, and they stand for what they did
 abbrev pub IsJudged : {E : Type 0} → (n : ℕ) → List Limits → List Entry → List Owner → Recalled → Dated → Result (Option WatchFault) E → Type 0

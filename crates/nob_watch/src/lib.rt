@@ -5,6 +5,7 @@
 
 mod asking;
 mod making;
+mod members;
 mod rerun;
 mod sealing;
 mod watch;

@@ -9,7 +9,7 @@ ghost use Rattle.nob_recall.specs.Next as next;
 ghost use Rattle.nob_recall.specs.Recalls as recalls;
 ghost use Rattle.nob_watch.specs.Reruns as words;
 
-use crate::asking::answers;
+use crate::members::is_answered;
 use crate::sealing::is_right_seal;
 use nob_frame::Frame;
 use nob_model_traces::origins::{frame_in, frames_of};
@@ -54,18 +54,6 @@ fn origin_fault(recall: &Recall, entry: &Entry, place: u64) -> Option<WatchFault
         Some(frame) => frame_fault(recall, frame, entry, place),
         None => None,
     }
-}
-
-// Whether the space of an entry answers its event so: that space changes, and no other. Only memory
-// fails it, and then the space is as it was.
-fn is_answered(spaces: &mut Vec<Space>, entry: &Entry) -> Result<bool, AllocError>
-    requires here { entry.now.space ≤ length spaces.old.items }
-    ensures { (n : ℕ) (list : List LimitsOf) (J : List EntryOf)
-        → words.AreMembers n list J spaces.old.items
-        → words.IsAsked n list J spaces.new.items entry.now result }
-{
-    let at = entry.space.place();
-    answers(&mut spaces[at], &entry.event, &entry.result)
 }
 
 // What is wrong with the seal behind an entry that its space answered so.

@@ -7,6 +7,7 @@ ghost use Rattle.nob_model_invariant.specs.Safe.{IsSafe};
 ghost use Rattle.nob_watch.specs.Reruns as words;
 
 use crate::making::take;
+use crate::members::{open_all, shut_all};
 use nob_ids::{Limits, SpaceId};
 use nob_past::Past;
 use nob_recall::{Dated, Recall, WatchError, WatchFault};
@@ -167,45 +168,4 @@ fn stop_of(found: Option<WatchFault>) -> Result<(), WatchError>
         Some(fault) => Err(WatchError::Fault(fault)),
         None => Ok(()),
     }
-}
-
-// The spaces from 1 to n, each with its limits, which did nothing.
-fn open_all(alloc: Global, n: u16, limits: &[Limits]) -> Result<Vec<Space>, AllocError>
-    requires few { n ≤ 32 }
-    requires each { length limits.now ≡ n }
-    ensures { IfOk result (λ spaces. words.AreMembers n limits.now [] spaces.items) }
-{
-    let mut spaces: Vec<Space> = Vec::new(alloc);
-    let mut p = 1;
-    while p <= n {
-        let Some(id) = SpaceId::new(p) else {
-            unreachable!();
-        };
-        let own = limits[id.place()];
-        let space = match Space::new(alloc, id, n, own) {
-            Ok(space) => space,
-            Err(error) => {
-                shut_all(spaces);
-                return Err(error);
-            }
-        };
-        match spaces.push(space) {
-            Ok(()) => {}
-            Err(failed) => {
-                failed.value.shut();
-                shut_all(spaces);
-                return Err(AllocError);
-            }
-        }
-        p += 1;
-    }
-    Ok(spaces)
-}
-
-// Ends spaces.
-fn shut_all(mut spaces: Vec<Space>) {
-    while let Some(space) = spaces.pop() {
-        space.shut();
-    }
-    spaces.destroy_empty();
 }

@@ -1,7 +1,7 @@
 use Rattle.std.proofs.Common.{◌≡◌, ◌≤◌, ◌+◌, ◌-◌, ℕ, [], Some, length, slice_get}
 use Rattle.nob_space.specs.Spaces.{Owner}
-use Rattle.nob_watch.specs.Reruns.{IsMember}
-use Rattle.nob_watch.proofs.rerun.open_all.Given as goal
+use Rattle.nob_watch.specs.Members.{IsMember}
+use Rattle.nob_watch.proofs.members.open_all.Given as goal
 
 -- the spaces below this one are there, and did nothing
 abbrev pub invariant-loop-p : goal.invariant-loop-p

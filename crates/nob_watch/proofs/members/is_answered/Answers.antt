@@ -1,6 +1,6 @@
 use Rattle.std.proofs.Common.{arith}
-use Rattle.nob_watch.proofs.Reruns.{Asked, asked_by}
-use Rattle.nob_watch.proofs.making.is_answered.Goals as goal
+use Rattle.nob_watch.proofs.Members.{Asked, asked_by}
+use Rattle.nob_watch.proofs.members.is_answered.Goals as goal
 
 pub returns : goal.returns
 returns c n list J are =
