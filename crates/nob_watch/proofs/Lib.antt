@@ -1,5 +1,5 @@
 pub mod Typed
 pub mod Peers
-pub mod Members
+pub mod Spaces
 pub mod Reruns
 pub mod Watches

@@ -32,7 +32,7 @@ use Rattle.nob_recall.specs.declared.dated.Dated.{Dated}
 use Rattle.nob_watch.specs.Sealing.{is_whole_seal}
 use Rattle.nob_recall.specs.declared.dated.SegmentSeal.{SegmentSeal}
 use Rattle.nob_watch.specs.Members.{AreLimits, IsMember, AreMembers, ArePlaces, IsAnswered}
-use Rattle.nob_watch.proofs.Members.{read_there, places_none}
+use Rattle.nob_watch.proofs.Spaces.{read_there, places_none}
 use Rattle.nob_watch.specs.Reruns.{journal_of, is_sealed, AreSealed, IsRun, IsSealFault, IsFaultBy, IsOriginFault, IsJudged, Following, begun, with_dated, with_fault, CanPassBy, IsLive, IsSound, IsRerun, HasTaken}
 
 -- ---- journals
