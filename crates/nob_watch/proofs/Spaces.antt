@@ -30,6 +30,12 @@ at_other entry q J differs = ap (λ (b : Bool). cond b (entry ∷ at q J) (at q 
 pub read_there : {X : Type 0} (xs : List X) (p k : ℕ) (x : X) → k ≡ p - 1 → 1 ≤ p → p ≤ length xs → x ≡ get_or xs k x → slice_get xs (p - 1) ≡ Some x
 read_there xs p k x same low high is = slice_get_read xs (length xs) (p - 1) x refl (omega (arith, low, high)) (subst (λ (j : ℕ). x ≡ get_or xs j x) same is)
 
+-- and so does what is read with a default
+pub list_got : {X : Type 0} (xs : List X) (j : ℕ) (x : X) → j < length xs → slice_get xs j ≡ Some (get_or xs j x)
+list_got [] j x less = absurd (omega (arith, less))
+list_got (y ∷ ys) zero x less = refl
+list_got (y ∷ ys) (suc j) x less = list_got ys j x (omega (arith, less))
+
 -- ---- the spaces
 
 -- with one changed that stands for another list, where no other space has another entry

@@ -112,10 +112,14 @@ abbrev pub IsOriginFault : ℕ → Entry → List Entry → ℕ → Option Watch
 IsOriginFault span entry J place None = ArrivesRemembered span entry.event J
 IsOriginFault span entry J place (Some fault) = (frame : Frame) × (entry.event ≡ events.Arrive frame) × IsArrivalFault span frame J entry.space place (Some fault)
 
--- what is found of the next entry, once its space was asked: nothing is wrong with it, and the spaces stand for it too; or this is wrong; or memory was wanted, and they stand for what they did
+-- what is found of the next entry, once its space was asked: nothing is wrong with it, and the spaces stand for it too; or this is wrong
+abbrev pub IsFound : (n : ℕ) → List Limits → List Entry → List Owner → Recalled → Dated → Option WatchFault → Type 0
+IsFound n list J spaces recall dated None = AreMembers n list (dated.entry ∷ J) spaces × IsOfTypes dated.entry × CanPassBy n list recall.span dated J
+IsFound n list J spaces recall dated (Some fault) = IsFaultBy n list recall.span dated J fault
+
+-- the same, or memory was wanted, and the spaces stand for what they did
 abbrev pub IsJudged : {E : Type 0} → (n : ℕ) → List Limits → List Entry → List Owner → Recalled → Dated → Result (Option WatchFault) E → Type 0
-IsJudged n list J spaces recall dated (Ok None) = AreMembers n list (dated.entry ∷ J) spaces × IsOfTypes dated.entry × CanPassBy n list recall.span dated J
-IsJudged n list J spaces recall dated (Ok (Some fault)) = IsFaultBy n list recall.span dated J fault
+IsJudged n list J spaces recall dated (Ok found) = IsFound n list J spaces recall dated found
 IsJudged n list J spaces recall dated (Err error) = AreMembers n list J spaces
 
 -- what is kept stands for a journal, where nothing is wrong

@@ -7,6 +7,7 @@ ghost use Rattle.nob_model_types.specs.declared.entry.Entry.{Entry as EntryOf};
 ghost use Rattle.nob_model_journal.specs.Journals.{frames_of as frames_in};
 ghost use Rattle.nob_recall.specs.Next as next;
 ghost use Rattle.nob_recall.specs.Recalls as recalls;
+ghost use Rattle.nob_watch.specs.Members as members;
 ghost use Rattle.nob_watch.specs.Reruns as words;
 
 use crate::members::is_answered;
@@ -60,7 +61,7 @@ fn origin_fault(recall: &Recall, entry: &Entry, place: u64) -> Option<WatchFault
 fn seal_fault(spaces: &[Space], dated: &Dated) -> Option<WatchFault>
     requires here { dated.now.entry.space ≤ length spaces.now }
     ensures { (n : ℕ) (list : List LimitsOf) (J : List EntryOf)
-        → words.AreMembers n list J spaces.now → words.IsSealFault n dated.now J result }
+        → members.AreMembers n list J spaces.now → words.IsSealFault n dated.now J result }
 {
     let Some(own) = &dated.seal else {
         return None;
@@ -81,12 +82,17 @@ fn judge(
 ) -> Result<Option<WatchFault>, AllocError>
     requires here { dated.now.entry.space ≤ length spaces.old.items }
     requires places { dated.now.entry.space ≤ length places.now }
-    ensures { (n : ℕ) (list : List LimitsOf) (J : List EntryOf)
+    ensures space { 1 ≤ dated.now.entry.space }
+    ensures judged { (n : ℕ) (list : List LimitsOf) (J : List EntryOf)
         → words.IsLive n list J spaces.old.items places.now recall.now
         → words.IsJudged n list J spaces.new.items recall.now dated.now result }
 {
     let place = places[dated.entry.space.place()];
-    if !is_answered(spaces, &dated.entry)? {
+    let same = match is_answered(spaces, &dated.entry) {
+        Ok(same) => same,
+        Err(error) => return Err(error),
+    };
+    if !same {
         return Ok(Some(WatchFault::NotARun(dated.entry.space, place)));
     }
     if let Some(fault) = origin_fault(recall, &dated.entry, place) {
@@ -110,8 +116,8 @@ fn enter(
     requires short { length passed.old.items < 2 ^ 62 }
     requires room { length frames.items ≤ recall.old.room }
     ensures passed { passed.new.items ≡ passed.old.items ++ dated.now ∷ [] }
-    ensures places { (n : ℕ) (J : List EntryOf) → words.ArePlaces n J places.old.items
-        → words.ArePlaces n (dated.now.entry ∷ J) places.new.items }
+    ensures places { (n : ℕ) (J : List EntryOf) → members.ArePlaces n J places.old.items
+        → members.ArePlaces n (dated.now.entry ∷ J) places.new.items }
     ensures recalls { (J : List EntryOf) → frames.items ≡ frames_in (deed_in dated.now.entry)
         → recalls.Recalls J recall.old → recalls.Recalls (dated.now.entry ∷ J) recall.new }
     ensures span { recall.new.span ≡ recall.old.span }

@@ -15,7 +15,8 @@ use std::alloc::{AllocError, Global};
 /// fails it, and then the space is as it was.
 pub(crate) fn is_answered(spaces: &mut Vec<Space>, entry: &Entry) -> Result<bool, AllocError>
     requires here { entry.now.space ≤ length spaces.old.items }
-    ensures { (n : ℕ) (list : List LimitsOf) (J : List EntryOf)
+    ensures each { length spaces.new.items ≡ length spaces.old.items }
+    ensures asked { (n : ℕ) (list : List LimitsOf) (J : List EntryOf)
         → words.AreMembers n list J spaces.old.items
         → words.IsAsked n list J spaces.new.items entry.now result }
 {

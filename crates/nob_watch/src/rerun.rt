@@ -4,6 +4,7 @@ ghost use Rattle.std.specs.Prelude.{◌≡◌, ◌≤◌, [], ℕ, Some, None, l
 ghost use Rattle.nob_ids.specs.declared.limits.Limits.{Limits as LimitsOf};
 ghost use Rattle.nob_model_journal.specs.Runs.{WorldRun};
 ghost use Rattle.nob_model_invariant.specs.Safe.{IsSafe};
+ghost use Rattle.nob_watch.specs.Members as members;
 ghost use Rattle.nob_watch.specs.Reruns as words;
 
 use crate::making::take;
@@ -98,7 +99,7 @@ impl Rerun {
     pub fn len(&self) -> u64
         ensures count { result ≡ length self.now.passed }
         ensures run { (limits : ℕ → LimitsOf)
-            → words.AreLimits self.now.n limits self.now.limits
+            → members.AreLimits self.now.n limits self.now.limits
             → WorldRun self.now.n limits (words.journal_of self.now.passed) }
         ensures safe { IsSafe self.now.n (words.journal_of self.now.passed) }
         ensures sealed { words.AreSealed self.now.n (reverse self.now.passed) }

@@ -4,6 +4,7 @@ ghost use Rattle.std.specs.Prelude.{◌≡◌, ◌≤◌, ℕ, false, length, re
 ghost use Rattle.nob_ids.specs.declared.limits.Limits.{Limits as LimitsOf};
 ghost use Rattle.nob_model_journal.specs.Runs.{WorldRun};
 ghost use Rattle.nob_model_invariant.specs.Safe.{IsSafe};
+ghost use Rattle.nob_watch.specs.Members as members;
 ghost use Rattle.nob_watch.specs.Reruns as reruns;
 ghost use Rattle.nob_recall.specs.Dues as dues;
 ghost use Rattle.nob_recall.specs.Orders.{InOrder};
@@ -72,7 +73,7 @@ impl Watch {
         ensures count { result ≡ length self.now.following.passed }
         ensures in_order { InOrder self.now.following.passed }
         ensures run { (limits : ℕ → LimitsOf)
-            → reruns.AreLimits self.now.following.n limits self.now.following.limits
+            → members.AreLimits self.now.following.n limits self.now.following.limits
             → WorldRun self.now.following.n limits
             (reruns.journal_of self.now.following.passed) }
         ensures safe { IsSafe self.now.following.n

@@ -2,8 +2,8 @@ use Rattle.std.proofs.Common.{arith}
 use Rattle.nob_watch.proofs.Spaces.{Asked, asked_by}
 use Rattle.nob_watch.proofs.members.is_answered.Goals as goal
 
-pub returns : goal.returns
-returns c n list J are =
+pub returns-clause-asked : goal.returns-clause-asked
+returns-clause-asked c n list J are =
     let next = c.place-at.ensures.next in
     asked_by (record {
       members = are;
