@@ -47,7 +47,7 @@ pub watching_told : (old new : Watching) (dated : Dated) → IsWatching old → 
 watching_told old new dated is same told = record {
   some = subst (λ (f : Following). 1 ≤ f.n) (sym same) is.some;
   each = ap length told.new_is ∙ length-set old.heads _ _ ∙ is.each ∙ ap (λ (f : Following). f.n) (sym same);
-  ahead = subst (λ (hs : List Upcoming). AreAhead new.following.passed hs) (sym told.new_is) (subst (λ (f : Following). AreAhead f.passed _) (sym same) (all_told old.following.passed old.heads dated told.head is.ahead told.there told.can.0 told.can.1));
+  ahead = subst (λ (f : Following). AreAhead f.passed new.heads) (sym same) (subst (λ (hs : List Upcoming). AreAhead old.following.passed hs) (sym told.new_is) (all_told old.following.passed old.heads dated told.head is.ahead told.there told.can.0 told.can.1));
   in_order = subst (λ (f : Following). InOrder f.passed) (sym same) is.in_order;
 }
 
@@ -91,19 +91,19 @@ watching_none following count heads none n some is = record {
 
 any_later : (low high : ℕ) (heads : List Upcoming) → low ≤ high → list_any (may_come low) heads ≡ true → list_any (may_come high) heads ≡ true
 any_later low high [] most is = absurd cc
-any_later low high (head ∷ heads) most is = by (may_come low head) refl is
+any_later low high (head ∷ heads) most is = by (may_come low head) refl is (any_later low high heads most)
   where
     later : (b : Bool) → list_any (may_come high) heads ≡ true → (b || list_any (may_come high) heads) ≡ true
     later true rest = refl
     later false rest = rest
 
-    by : (b : Bool) → may_come low head ≡ b → (b || list_any (may_come low) heads) ≡ true → (may_come high head || list_any (may_come high) heads) ≡ true
-    by true its any =
+    by : (b : Bool) → may_come low head ≡ b → (b || list_any (may_come low) heads) ≡ true → (list_any (may_come low) heads ≡ true → list_any (may_come high) heads ≡ true) → (may_come high head || list_any (may_come high) heads) ≡ true
+    by true its any rest =
         let parts = and_parts (is_wanted head) (nat_lt head.last low) its in
         let before = parts.1 in
         let less : nat_lt head.last high ≡ true = grind (arith, nat_tests, before, most) in
         λ i. (parts.0 i && less i) || list_any (may_come high) heads
-    by false its any = later (may_come high head) (any_later low high heads most any)
+    by false its any rest = later (may_come high head) (rest any)
 
 -- where none is due
 pub up_to_lowest : (heads : List Upcoming) → AreOfSpaces heads → ((dated : Dated) → IsDue heads dated → ⊥) → AreUpToLowest heads
