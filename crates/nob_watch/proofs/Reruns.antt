@@ -1,21 +1,14 @@
 -- What one entry more leaves of a run that is followed.
-use Rattle.std.proofs.Common.{◌≡◌, ◌≢◌, ◌⊎◌, ◌↔◌, ℕ, ◌+◌, ◌-◌, ◌≤◌, ◌<◌, ◌^◌, Bool, true, false, cond, ◌==◌, List, [], ◌∷◌, ◌++◌, length, map, filter, reverse, replicate, get_or, slice_get, Option, Some, None, inl, inr, refl, sym, ap, subst, ◌∙◌, arith}
-use Prim.Native.Nat.{zero, suc}
-use Rattle.std.specs.Prelude.{Result, Ok, Err, IfOk, OnErr}
-use Rattle.std.specs.List.{AllByRecursion, Contains}
-use Rattle.std.proofs.lemmas.Option.{slice_get_read}
-use lib.ListN.{set}
-use Rattle.std.proofs.lemmas.List.{length-set, length-replicate, length-reverse, reverse-append}
-use Rattle.std.proofs.lemmas.Cmp.{nat_eq_equiv}
-use Rattle.std.proofs.lemmas.Bool.Decides.{nat_tests, Decides-eqb}
+use Rattle.std.proofs.Common.{◌≡◌, ℕ, ◌+◌, ◌-◌, ◌≤◌, ◌<◌, ◌^◌, Bool, true, false, cond, ◌==◌, List, [], ◌∷◌, ◌++◌, length, map, filter, reverse, replicate, get_or, slice_get, Option, Some, None, inl, inr, refl, sym, ap, subst, ◌∙◌, arith}
+use Prim.Native.Nat.{suc}
+use Rattle.std.specs.Prelude.{Ok, Err}
+use Rattle.std.proofs.lemmas.List.{length-reverse, reverse-append}
 use Rattle.nob_ids.specs.declared.limits.Limits.{Limits}
-use Rattle.nob_frame.specs.declared.frame.Frame.{Frame}
 use Rattle.nob_model_types.specs.declared.entry.Entry.{Entry}
 use Rattle.nob_model_types.specs.declared.event.Event.{Event}
 use Rattle.nob_model_types.specs.declared.event.Event.TheVariants as events
-use Rattle.nob_model.specs.Right.{IsRight}
 use Rattle.nob_model_journal.specs.Journals.{at}
-use Rattle.nob_model_journal.specs.Runs.{ArrivesGiven, IsOfWorld, WorldRun}
+use Rattle.nob_model_journal.specs.Runs.{ArrivesGiven}
 use Rattle.nob_model_invariant.specs.Safe.{IsSafe}
 use Rattle.nob_model_invariant.proofs.Safe.{safe_law}
 use Rattle.nob_model_invariant.specs.Typed.{IsOfTypes}
@@ -28,13 +21,13 @@ use Rattle.nob_recall.specs.Tables.{TableStands}
 use Rattle.nob_recall.specs.declared.heard.Heard.{Heard}
 use Rattle.nob_recall.specs.Remembering.{ArrivesRemembered, memory}
 use Rattle.nob_recall.proofs.Forgetting.{remembered_were_transmitted}
-use Rattle.nob_space.specs.Spaces.{Owner, StandsFor, SameSpace, entry_of}
+use Rattle.nob_space.specs.Spaces.{Owner, StandsFor}
 use Rattle.nob_recall.specs.declared.dated.Dated.{Dated}
 use Rattle.nob_watch.specs.Sealing.{is_whole_seal}
 use Rattle.nob_recall.specs.declared.dated.SegmentSeal.{SegmentSeal}
 use Rattle.nob_watch.specs.Members.{AreLimits, IsMember, AreMembers, ArePlaces, IsAnswered}
 use Rattle.nob_watch.proofs.Spaces.{list_got, read_there, places_none}
-use Rattle.nob_watch.specs.Reruns.{journal_of, is_sealed, AreSealed, IsRun, IsSealFault, IsFaultBy, IsOriginFault, IsFound, Following, begun, with_dated, with_fault, CanPassBy, IsLive, IsSound, IsRerun, HasTaken, IsFaultIn, Passes, PassesAfter}
+use Rattle.nob_watch.specs.Reruns.{journal_of, is_sealed, AreSealed, IsRun, IsSealFault, IsFaultBy, IsOriginFault, IsFound, Following, with_dated, with_fault, CanPassBy, IsLive, IsSound, IsRerun, HasTaken, IsFaultIn, Passes, PassesAfter}
 
 -- ---- journals
 
@@ -249,9 +242,11 @@ pub taken_ok : (n : ℕ) (list : List Limits) (J : List Entry) (dated : Dated) (
     → (ArePlaces n J places → ArePlaces n (dated.entry ∷ J) places') → (Recalls J recall → Recalls (dated.entry ∷ J) recall')
     → HasTaken n list J old.span dated spaces' places' recall' (Ok tt)
 taken_ok n list J dated spaces places places' old recall recall' low high same live run spaces' judged places_on recalls_on =
-    let can : CanPassBy n list old.span dated J = subst (λ (span : ℕ). CanPassBy n list span dated J) same.span judged.2 in
-    (record { members = judged.0; next = places_on live.next; recalls = recalls_on (recalls_same J old recall same live.recalls) },
-    run_more n old.span list J dated.entry run low high judged.1 can.can, can)
+    let can : CanPassBy n list old.span dated J = subst (λ (span : ℕ). CanPassBy n list span dated J) same.span judged.2 in (
+      record { members = judged.0; next = places_on live.next; recalls = recalls_on (recalls_same J old recall same live.recalls) },
+      run_more n old.span list J dated.entry run low high judged.1 can.can,
+      can,
+    )
 
 -- something is wrong with it
 pub taken_fault : (n : ℕ) (list : List Limits) (J : List Entry) (dated : Dated) (spaces : List Owner) (old recall : Recalled) (fault : WatchFault) → IsSame old recall → IsFound n list J spaces recall dated (Some fault) → IsFaultBy n list old.span dated J fault

@@ -15,8 +15,8 @@ use Rattle.nob_recall.specs.Dues.{AreOfSpaces, IsDue, IsTold as IsToldTo, with_p
 use Rattle.nob_recall.specs.Orders.{InOrder, AreAhead}
 use Rattle.nob_recall.proofs.Dues.{IsNoEarlier, least, found_at, due_at, all_none, all_told, all_ended, all_passed, order_passed, passed_length, ended_length}
 use Rattle.std.proofs.lemmas.List.{length-set, length-replicate}
-use Rattle.nob_watch.specs.Reruns.{Following, Passes, PassesAfter, HasPassed}
-use Rattle.nob_watch.specs.Watches.{Watching, IsWatching, AreUpToLowest, GoesOnBy, ended}
+use Rattle.nob_watch.specs.Reruns.{Following, Passes, PassesAfter}
+use Rattle.nob_watch.specs.Watches.{Watching, IsWatching, AreUpToLowest, GoesOnBy}
 
 -- what was passed, and how many spaces there are, where an entry wasn't passed
 same_passed : (old new : Following) (dated : Dated) (error : WatchError) → Passes old new dated (Err error) → (new.passed ≡ old.passed) × (new.n ≡ old.n)

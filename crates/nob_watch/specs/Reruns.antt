@@ -1,5 +1,5 @@
 -- Spaces that are asked the entries of a journal again, and what is kept of them. The newest entry stands FIRST.
-use Rattle.std.specs.Prelude.{◌≡◌, ◌≤◌, ◌+◌, ◌-◌, ◌++◌, ◌⊎◌, ⊤, ℕ, Bool, true, false, List, [], ◌∷◌, length, map, reverse, slice_get, Option, Some, None, Result, Ok, Err}
+use Rattle.std.specs.Prelude.{◌≡◌, ◌≤◌, ◌-◌, ◌++◌, ◌⊎◌, ⊤, ℕ, Bool, true, false, List, [], ◌∷◌, length, map, reverse, slice_get, Option, Some, None, Result, Ok, Err}
 use Rattle.nob_ids.specs.declared.limits.Limits.{Limits}
 use Rattle.nob_frame.specs.declared.frame.Frame.{Frame}
 use Rattle.nob_model_types.specs.declared.entry.Entry.{Entry}
@@ -7,7 +7,7 @@ use Rattle.nob_model_journal.specs.Journals.{at}
 use Rattle.nob_model_journal.specs.Runs.{WorldRun}
 use Rattle.nob_model_invariant.specs.Typed.{IsOfTypes, AreOfTypes}
 use Rattle.nob_model_types.specs.declared.event.Event.TheVariants as events
-use Rattle.nob_recall.specs.Next.{IsRightNext, CanPass, IsArrivalFault, IsNextFault}
+use Rattle.nob_recall.specs.Next.{CanPass, IsArrivalFault, IsNextFault}
 use Rattle.nob_recall.specs.Remembering.{ArrivesRemembered}
 use Rattle.nob_recall.specs.declared.fault.WatchError.{WatchError}
 use Rattle.nob_recall.specs.declared.fault.WatchError.TheVariants.{Fault, OutOfMemory}
@@ -15,7 +15,7 @@ use Rattle.nob_recall.specs.declared.fault.WatchFault.{WatchFault}
 use Rattle.nob_recall.specs.declared.fault.WatchFault.TheVariants as faults
 use Rattle.nob_space.specs.Spaces.{Owner}
 use Rattle.nob_watch.specs.Sealing.{is_whole_seal}
-use Rattle.nob_watch.specs.Members.{AreLimits, AreMembers, ArePlaces, IsAnswered}
+use Rattle.nob_watch.specs.Members.{AreLimits, AreMembers, ArePlaces}
 use Rattle.nob_recall.specs.declared.dated.Dated.{Dated}
 use Rattle.nob_recall.specs.declared.dated.SegmentSeal.{SegmentSeal}
 use Rattle.nob_recall.specs.Recalls.{Recalled, Recalls}

@@ -1,6 +1,6 @@
 //! A run of a world that is followed.
 
-ghost use Rattle.std.specs.Prelude.{◌≡◌, ◌≤◌, [], ℕ, Some, None, length, reverse, IfOk};
+ghost use Rattle.std.specs.Prelude.{◌≡◌, ◌≤◌, ℕ, Some, None, length, reverse, IfOk};
 ghost use Rattle.nob_ids.specs.declared.limits.Limits.{Limits as LimitsOf};
 ghost use Rattle.nob_model_journal.specs.Runs.{WorldRun};
 ghost use Rattle.nob_model_invariant.specs.Safe.{IsSafe};

@@ -1,4 +1,4 @@
-use Rattle.std.proofs.Common.{◌≡◌, ◌≤◌, ◌∷◌, ℕ, List, length, get_or, Some, None, sym, subst, ◌∙◌, arith}
+use Rattle.std.proofs.Common.{◌≡◌, ◌≤◌, ◌∷◌, ℕ, List, length, get_or, sym, subst, arith}
 use Rattle.nob_space.specs.Spaces.{Owner}
 use Rattle.nob_watch.specs.Members.{AreMembers, IsAnswered}
 use Rattle.nob_watch.specs.Reruns.{IsOriginFault}

@@ -14,7 +14,10 @@ returns-then-is_right_seal c n list J are =
 pub returns : goal.returns
 returns c n list J are =
     let next = c.place.ensures.next in
-    let dated = c.args.dated.now in
-    (c.in-Some.own, c.in-Some.is,
-    sym (seal_of n list J c.args.spaces.now dated c.place.result c.index-spaces-place.result c.in-Some.own c.is_right_seal.result are c.place.ensures.value (omega (arith, next)) c.requires.here c.index-spaces-place.is c.is_right_seal.ensures)
-    ∙ c.if-is_right_seal.false, refl)
+    let dated = c.args.dated.now in (
+      c.in-Some.own,
+      c.in-Some.is,
+      sym (seal_of n list J c.args.spaces.now dated c.place.result c.index-spaces-place.result c.in-Some.own c.is_right_seal.result are c.place.ensures.value (omega (arith, next)) c.requires.here c.index-spaces-place.is c.is_right_seal.ensures)
+          ∙ c.if-is_right_seal.false,
+      refl,
+    )

@@ -1,4 +1,4 @@
-use Rattle.std.proofs.Common.{◌<◌, ◌^◌, ℕ, List, length, Some, None, sym, subst}
+use Rattle.std.proofs.Common.{◌<◌, ◌^◌, ℕ, List, length, sym, subst}
 use Rattle.nob_recall.specs.declared.dated.Dated.{Dated}
 use Rattle.nob_watch.specs.Reruns.{journal_of, IsFound, IsLive}
 use Rattle.nob_watch.proofs.Reruns.{place_low, live_same, taken_ok, taken_fault, taken_none}

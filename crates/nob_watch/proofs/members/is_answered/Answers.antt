@@ -1,5 +1,5 @@
 use Rattle.std.proofs.Common.{arith}
-use Rattle.nob_watch.proofs.Spaces.{Asked, asked_by}
+use Rattle.nob_watch.proofs.Spaces.{asked_by}
 use Rattle.nob_watch.proofs.members.is_answered.Goals as goal
 
 pub returns-clause-asked : goal.returns-clause-asked

@@ -1,4 +1,4 @@
-use Rattle.std.proofs.Common.{◌≡◌, ◌≤◌, ◌+◌, ◌-◌, ◌∷◌, ◌++◌, ℕ, [], List, length, length-append, Some, slice_get, sym, subst, ap, ◌∙◌, arith}
+use Rattle.std.proofs.Common.{◌≡◌, ◌+◌, ◌∷◌, ◌++◌, ℕ, [], List, length, length-append, Some, slice_get, sym, subst, ap, ◌∙◌, arith}
 use Rattle.nob_space.specs.Spaces.{Owner}
 use Rattle.nob_watch.specs.Members.{IsMember}
 use Rattle.nob_watch.proofs.Spaces.{member_new, members_push}
