@@ -13,7 +13,7 @@ use Rattle.nob_recall.specs.declared.dated.Dated.{Dated}
 use Rattle.nob_recall.specs.declared.head.Upcoming.{Upcoming}
 use Rattle.nob_recall.specs.Dues.{AreOfSpaces, IsDue, IsTold as IsToldTo, with_passed, with_end, no_head, earliest, is_wanted, may_come}
 use Rattle.nob_recall.specs.Orders.{InOrder, AreAhead}
-use Rattle.nob_recall.proofs.Dues.{IsNoEarlier, least, found_at, due_at, all_none, all_told, all_ended, all_passed, order_passed, passed_length, ended_length}
+use Rattle.nob_recall.proofs.Dues.{IsNoEarlier, least, found_at, due_at, all_none, due_within, all_told, all_ended, all_passed, order_passed, passed_length, ended_length}
 use Rattle.std.proofs.lemmas.List.{length-set, length-replicate}
 use Rattle.nob_watch.specs.Reruns.{Following, Passes, PassesAfter}
 use Rattle.nob_watch.specs.Watches.{Watching, IsWatching, AreUpToLowest, GoesOnBy}
@@ -132,3 +132,7 @@ pub cut_at : (old new : Watching) (result : Result Bool WatchError) → AreOfSpa
 cut_at old new (Ok true) are goes = λ went. absurd cc
 cut_at old new (Ok false) are (none, same, heads) = λ went. subst AreUpToLowest (sym heads) (up_to_lowest old.heads are none)
 cut_at old new (Err error) are goes = tt
+
+-- the entry that is due is of one of the spaces
+pub due_here : (heads : List Upcoming) (dated : Dated) (n : ℕ) → AreOfSpaces heads → IsDue heads dated → length heads ≤ n → dated.entry.space ≤ n
+due_here heads dated n are due few = let within = due_within heads dated are due in let most = within.1 in omega (arith, most, few)
