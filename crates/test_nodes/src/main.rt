@@ -95,16 +95,25 @@ fn run_held<R: Threads + Wait + Sync + Print>(rt: &R, alloc: Global) -> io::Resu
 
 // Plays the scenes in which a session is closed by a Close that is lost.
 fn run_closing<R: Threads + Wait + Sync + Print>(rt: &R, alloc: Global) -> io::Result<()> {
-    let closing = play_closing(rt, alloc, Part::OwnsAndCloses);
+    let closing = play_closing(rt, alloc, [Part::OwnsAndCloses, Part::CallsHeld]);
     say(
         rt,
         &closing,
         &[("a call whose session is closed by a Close that is lost", 1)],
     )?;
-    let reopening = play_closing(rt, alloc, Part::OwnsAndReopens);
+    let reopening = play_closing(rt, alloc, [Part::OwnsAndReopens, Part::CallsHeld]);
     say(
         rt,
         &reopening,
         &[("the same where the session is opened anew at once", 1)],
+    )?;
+    let holding = play_closing(rt, alloc, [Part::OwnsUntilWithdrawn, Part::HoldsAndCloses]);
+    say(
+        rt,
+        &holding,
+        &[
+            ("an object whose holder closes by a Close that is lost", 1),
+            ("live objects once it is withdrawn", 0),
+        ],
     )
 }

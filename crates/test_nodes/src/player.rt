@@ -22,6 +22,10 @@ pub(crate) enum Part {
     OwnsAndCloses,
     /// The same, and opens it anew at once.
     OwnsAndReopens,
+    /// Has an object for the other, and waits until nobody holds it.
+    OwnsUntilWithdrawn,
+    /// Holds the object of the other, and closes the session.
+    HoldsAndCloses,
     /// Calls an object whose method is held up.
     CallsHeld,
     /// Calls another object meanwhile, and then has the method go on.
@@ -93,7 +97,7 @@ impl<'m> Player<'m> {
             }
             Part::OwnsAndCloses | Part::OwnsAndReopens => {
                 self.shared.wait_held(rt);
-                self.close(rt, node);
+                self.close_with(rt, node, 2);
             }
             _ => {
                 let _ = company.meet(rt);
@@ -115,16 +119,48 @@ impl<'m> Player<'m> {
         self.give_back(rt, node, hold);
     }
 
-    // Closes the session with the second space, once nothing is out, and may open it anew at once.
-    fn close<R: Wait>(&mut self, rt: &R, node: &mut Node<Thing>) {
-        let Some(second) = SpaceId::new(2) else {
+    // Closes the session with a space, once nothing is out, and may open it anew at once.
+    fn close_with<R: Wait>(&mut self, rt: &R, node: &mut Node<Thing>, space: u16) {
+        let Some(peer) = SpaceId::new(space) else {
             return;
         };
         rest(rt);
-        let _ = self.refusals.answered(node.close(rt, second));
+        let _ = self.refusals.answered(node.close(rt, peer));
         if self.part == Part::OwnsAndReopens {
-            let _ = self.refusals.answered(node.open(rt, second));
+            let _ = self.refusals.answered(node.open(rt, peer));
         }
+    }
+
+    // Has an object for the other, which alone holds it then, and waits until it is withdrawn. It says
+    // how many objects are live then, if one was before.
+    fn own_until_withdrawn<R: Wait>(&mut self, rt: &R, node: &mut Node<Thing>, company: &Company) {
+        let Some(one) = offer(rt, node, &mut self.refusals, b"one", Thing::Counter(0)) else {
+            return;
+        };
+        let index = one.rep().index;
+        let _ = company.meet(rt);
+        let _ = company.meet(rt);
+        let unbound = self.refusals.answered(node.unbind(rt, b"one"));
+        self.give_back(rt, node, Some(one));
+        let held = node.live(rt);
+        let _ = company.meet(rt);
+        if unbound.is_some() {
+            node.wait_withdrawn(rt, index);
+        }
+        if held == 1 {
+            self.said = live_at(rt, node);
+        }
+    }
+
+    // Calls the object of the first space, and closes the session while it holds it.
+    fn hold_and_close<R: Wait>(&mut self, rt: &R, node: &mut Node<Thing>, company: &Company) {
+        let _ = company.meet(rt);
+        let hold = self.found(rt, node, b"one");
+        self.said = self.said_by(rt, node, &hold, Value::Unit);
+        let _ = company.meet(rt);
+        let _ = company.meet(rt);
+        self.close_with(rt, node, 1);
+        self.give_back(rt, node, hold);
     }
 
     // Calls another object meanwhile, or waits for the owner to leave; then the method goes on.
@@ -191,6 +227,8 @@ impl<'m> nob_two_nodes::Player<Thing> for Player<'m> {
             Part::OwnsAndLeaves => self.own(rt, node, company),
             Part::OwnsAndCloses => self.own(rt, node, company),
             Part::OwnsAndReopens => self.own(rt, node, company),
+            Part::OwnsUntilWithdrawn => self.own_until_withdrawn(rt, node, company),
+            Part::HoldsAndCloses => self.hold_and_close(rt, node, company),
             Part::CallsHeld => self.call_held(rt, node, company),
             Part::CallsOther => self.let_go_on(rt, node, company),
             Part::LetsGoOn => self.let_go_on(rt, node, company),
@@ -221,6 +259,14 @@ fn rest<R: Wait>(rt: &R) {
 fn running_at<R: Wait>(rt: &R, node: &Node<Thing>) -> Said {
     match i64::try_from(node.backlog(rt).running) {
         Ok(running) => Said::Number(running),
+        Err(_) => Said::Other,
+    }
+}
+
+// How many objects are live at a node.
+fn live_at<R: Wait>(rt: &R, node: &Node<Thing>) -> Said {
+    match i64::try_from(node.live(rt)) {
+        Ok(live) => Said::Number(live),
         Err(_) => Said::Other,
     }
 }

@@ -56,13 +56,12 @@ pub(crate) fn play_cut<R: Threads + Wait + Sync>(rt: &R, alloc: Global) -> Optio
     play_all(rt, alloc, nodes, &parts, Loose::Both(there, back))
 }
 
-/// Plays the scene of two applications of which the first closes the session, and may open it anew,
-/// while a method is held up that the second has called: the first Close that comes each way is lost.
-/// The sessions' time ticks.
+/// Plays the scene of two applications of which one closes the session: the first Close that comes
+/// each way is lost. The sessions' time ticks.
 pub(crate) fn play_closing<R: Threads + Wait + Sync>(
     rt: &R,
     alloc: Global,
-    owner: Part,
+    parts: [Part; 2],
 ) -> Option<Scene> {
     let mut layout = Layout::new(Keep::All);
     layout.tick_every = 500;
@@ -73,7 +72,6 @@ pub(crate) fn play_closing<R: Threads + Wait + Sync>(
     let (put_there, take_there) = nodes.open(second, first)?;
     let there = Way::losing(take, put_there);
     let back = Way::losing(take_there, put);
-    let parts = [owner, Part::CallsHeld];
     play_all(rt, alloc, nodes, &parts, Loose::All(there, back))
 }
 
