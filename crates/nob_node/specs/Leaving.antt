@@ -4,6 +4,7 @@ use Rattle.std.specs.Global.{Vec}
 use Rattle.nob_model_types.specs.declared.answer.Job.{Job}
 use Rattle.nob_dispatch.specs.declared.errand.Errand.{Errand}
 use Rattle.nob_dispatch.specs.Serving.{Serving}
+use Rattle.nob_dispatch.specs.Steps.{object_in}
 use Rattle.nob_dispatch_lanes.specs.declared.ends.LaneTake.{LaneTake}
 use Rattle.nob_dispatch_lanes.specs.Ends.{got_by}
 use Rattle.nob_node_site.specs.Assigning.{with_return}
@@ -52,15 +53,16 @@ module _ {B : Type 0} where
   abbrev pub AllUnserved : (before after : List (Errand (Kept B))) → (old new : List (ℕ × Place (Kept B))) → Type 0
   AllUnserved before after old new = (came : List (Errand (Kept B))) × (after ≡ got_with came before) × (new ≡ with_returns (map back_of came) old)
 
-  -- the object of the job that a worker still had came back, if there was one
-  abbrev pub KeptCameBack : (running : Option Job) → (old new : List (ℕ × Place (Kept B))) → Type 0
-  KeptCameBack None old new = new ≡ old
-  KeptCameBack (Some job) old new = (object : Kept B) × (new ≡ with_return (record { job = job.job; index = job.target; object = object }) old)
+  -- the object with which a worker still ran a job came back, if it ran one
+  abbrev pub KeptCameBack : (running : Option Job) → (had : Option (Kept B)) → (old new : List (ℕ × Place (Kept B))) → Type 0
+  KeptCameBack None had old new = new ≡ old
+  KeptCameBack (Some job) None old new = ⊥
+  KeptCameBack (Some job) (Some object) old new = new ≡ with_return (record { job = job.job; index = job.target; object = object }) old
 
   -- all came back that a hand left: first the object that its worker still had, and then those of the errands that were left for it, until its end of their lane found none
   abbrev pub HandCameBack : Serving (Kept B) → LaneTake (Errand (Kept B)) → (old new : List (ℕ × Place (Kept B))) → Type 0
   HandCameBack hand end old new = (between : List (ℕ × Place (Kept B)))
-      × KeptCameBack hand.worker.running old between × AllUnserved hand.taken (got_by end.pass) between new × (end.has_found_none ≡ true)
+      × KeptCameBack hand.worker.running (object_in hand.worker.course) old between × AllUnserved hand.taken (got_by end.pass) between new × (end.has_found_none ≡ true)
 
   -- so it is of each hand, one after the other; their ends stand, in order, behind those before
   abbrev pub HandsCameBack : List (Serving (Kept B)) → (before after : List (LaneTake (Errand (Kept B)))) → (old new : List (ℕ × Place (Kept B))) → Type 0
