@@ -2,6 +2,7 @@
 
 use crate::ends::{Ends, Pair, pair_of};
 use std::alloc::Global;
+use std::sync::atomic::{AtomicBool, Ordering};
 use std::sync::{Mutex, Wait};
 
 /// What a player does, and with which space.
@@ -28,6 +29,8 @@ pub(crate) enum Doing {
     Rests,
     /// It waits until its sessions stand as those of the others.
     Settles,
+    /// It waits until no allocation is refused any more.
+    Leaves,
     /// It has returned.
     Left,
 }
@@ -69,6 +72,8 @@ impl Desk {
 #[derive(Drop)]
 pub(crate) struct Desks {
     desks: Vec<Desk>,
+    // Whether the nodes may end: no allocation is refused any more.
+    has_ended: AtomicBool,
 }
 
 impl Desks {
@@ -78,7 +83,33 @@ impl Desks {
         for _ in 0..players {
             desks.push(Desk::new()).ok()?;
         }
-        Some(Desks { desks })
+        Some(Desks {
+            desks,
+            has_ended: AtomicBool::new(false),
+        })
+    }
+
+    // Says that no allocation is refused any more.
+    pub(crate) fn end(&self) {
+        self.has_ended.store(true, Ordering::SeqCst);
+    }
+
+    // Whether none is.
+    pub(crate) fn has_ended(&self) -> bool {
+        self.has_ended.load(Ordering::SeqCst)
+    }
+
+    // Whether a player has done all, and each other one too, or never began.
+    pub(crate) fn are_done<R: Wait>(&self, rt: &R) -> bool {
+        let mut is_one_done = false;
+        for desk in self.desks.iter() {
+            match desk.said(rt).doing {
+                Doing::Begins => {}
+                Doing::Leaves | Doing::Left => is_one_done = true,
+                _ => return false,
+            }
+        }
+        is_one_done
     }
 
     // Says what the player of the space of a number does from now on.

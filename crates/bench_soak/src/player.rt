@@ -126,6 +126,18 @@ impl<'s> Soaker<'s> {
         self.settle(rt, node, company);
     }
 
+    // Waits until no allocation is refused any more: a node that ends without memory leaves no report.
+    fn leave<R: Wait>(&self, rt: &R) {
+        self.say(rt, Doing::Leaves);
+        for _ in rt.forever() {
+            if self.desks.has_ended() {
+                break;
+            }
+            doze(rt, 1_000);
+        }
+        self.say(rt, Doing::Left);
+    }
+
     // Waits, with the others, until each session stands at one end as it does at the other. All see
     // the same of all, and so stop together.
     fn settle<R: Wait>(&mut self, rt: &R, node: &mut Node<Thing>, company: &Company) {
@@ -160,7 +172,7 @@ impl<'s> Player<Thing> for Soaker<'s> {
         }
         pocket.end(rt, node);
         self.end(rt, node, company);
-        self.say(rt, Doing::Left);
+        self.leave(rt);
     }
 }
 

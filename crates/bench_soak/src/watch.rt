@@ -56,6 +56,12 @@ impl<'p, 's, P: Print + Eprint> Watch<'p, 's, P> {
         self.carriers.iter().any(|carrier| carrier.is_there())
     }
 
+    // Says that all have done what they do: no allocation is refused from here on, so the nodes may end.
+    fn end(&self) {
+        let _ = self.out.println("ended");
+        self.desks.end();
+    }
+
     // Rests for a while, and looks whether something went on meanwhile.
     fn rest<R: Wait>(&mut self, rt: &R) {
         let micros = if self.carries() { SHORT_REST } else { REST };
@@ -83,10 +89,15 @@ impl<'p, 's, P: Print + Eprint> Beside for Watch<'p, 's, P> {
             if meeting.is_over(rt) && !self.carries() {
                 break;
             }
+            if !self.desks.has_ended() && self.desks.are_done(rt) {
+                self.end();
+            }
             if !self.carry(rt) {
                 self.rest(rt);
             }
         }
-        let _ = self.out.println("ended");
+        if !self.desks.has_ended() {
+            self.end();
+        }
     }
 }
