@@ -23,4 +23,4 @@ pub use reading::{chain_at, decode};
 pub use refusals::refusal_line;
 pub use seal::{PeerSeal, PeerSeals, Seal};
 pub use segment::{Segment, Segments};
-pub use writing::encode;
+pub use writing::{encode, head_line, segment_text};

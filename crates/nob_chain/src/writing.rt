@@ -41,6 +41,27 @@ pub fn encode(alloc: Global, chain: &Chain) -> Result<String, ChainError>
     Ok(text)
 }
 
+/// The first line of a chain, with its newline.
+pub fn head_line(alloc: Global, head: &ChainHead) -> Result<String, AllocError>
+    ensures { IfOk result (λ text. string_bytes text ≡ spec.head_text head.now ++ 10 ∷ []) }
+{
+    let mut text = head_text(alloc, head)?;
+    text.push_str("\n")?;
+    Ok(text)
+}
+
+/// The lines of one segment, with the number that it has in its chain: a chain's text is its first
+/// line, and these of each of its segments. R2 as `encode`, unless memory runs out.
+pub fn segment_text(alloc: Global, number: u64, segment: &Segment) -> Result<String, ChainError>
+    ensures { Writes (λ text. string_bytes text
+        ≡ spec.lines_text (spec.segment_lines number segment.now))
+        (IsSpeakable segment.now) result }
+{
+    let mut text = String::new(alloc);
+    put_segment(alloc, &mut text, number as u128, segment)?;
+    Ok(text)
+}
+
 // The first line of a chain.
 fn head_text(alloc: Global, head: &ChainHead) -> Result<String, AllocError>
     ensures { IfOk result (λ text. string_bytes text ≡ spec.head_text head.now) }
