@@ -40,3 +40,8 @@ wants_memory_twice event = wants_memory event
 abbrev pub first_of : Result (Answer × Answer) SpaceError → Result Answer SpaceError
 first_of (Ok two) = Ok two.0
 first_of (Err error) = Err error
+
+-- the first of three answers, or why there is none
+abbrev pub first_of_three : Result (Answer × Answer × Answer) SpaceError → Result Answer SpaceError
+first_of_three (Ok three) = Ok three.0
+first_of_three (Err error) = Err error

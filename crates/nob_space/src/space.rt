@@ -23,7 +23,7 @@ ghost use Rattle.nob_space.specs.Births.{IsError};
 ghost use Rattle.nob_space.specs.Spaces.{StandsFor, SameSpace, wants_memory};
 ghost use Rattle.nob_space.specs.Steps.{HandsOnFitting, IsOwn};
 ghost use Rattle.nob_space.specs.Events.{StepAnswers, StepStands};
-ghost use Rattle.nob_space.specs.Twice.{first_of, wants_memory_twice};
+ghost use Rattle.nob_space.specs.Twice.{first_of, first_of_three, wants_memory_twice};
 
 use crate::answers::{of_arrive, of_call, of_finish, of_tick};
 use crate::twice::{again, spare_of};
@@ -354,6 +354,25 @@ impl Space {
         let answer = self.step(event)?;
         let second = again(&answer, spare);
         Ok((answer, second))
+    }
+
+    /// The same, with three equal answers. It costs what `step` costs, and two copies of what the
+    /// answer owns.
+    pub fn step_thrice(&mut self, event: &Event) -> Result<(Answer, Answer, Answer), SpaceError>
+        ensures answer { StepAnswers self.old event.now (first_of_three result) }
+        ensures second { IfOk result (λ three. three.1 ≡ three.0) }
+        ensures third { IfOk result (λ three. three.2 ≡ three.0) }
+        ensures stands { StepStands self.old self.new event.now (first_of_three result) }
+        ensures err { OnErr result ((L : List Entry) → StandsFor self.old L
+            → StandsFor self.new L) }
+        ensures same { SameSpace self.old self.new }
+    {
+        let spare = spare_of(&self.parts, event)?;
+        let other = spare_of(&self.parts, event)?;
+        let answer = self.step(event)?;
+        let second = again(&answer, spare);
+        let third = again(&answer, other);
+        Ok((answer, second, third))
     }
 
     /// Closes each session that is open, as if it was asked to, and ends the space: each of its
