@@ -1,0 +1,4 @@
+pub mod Taken
+pub mod Small
+pub mod Firsts
+pub mod Staged

@@ -1,0 +1,3 @@
+pub mod Steps
+pub mod Sealed
+pub mod Laws
