@@ -94,7 +94,7 @@ impl Desks {
         self.has_ended.store(true, Ordering::SeqCst);
     }
 
-    // Whether none is.
+    // Whether no allocation is refused any more.
     pub(crate) fn has_ended(&self) -> bool {
         self.has_ended.load(Ordering::SeqCst)
     }

@@ -58,12 +58,20 @@ pub fn run<B: Object + Send, R: Threads + Wait + Sync, G: Gate + Sync, A: App<B>
     ensures kept { IfOk result (λ report. summaries.is_chain report.«record»
         ≡ keeps_all config.keep) }
 {
-    let Some((site, crew)) = site_of::<B>(alloc, &config, ends) else {
+    let Some((site, crew)) = site_of::<B>(alloc, &config, ends, processors(rt)) else {
         return Err(without_memory(alloc));
     };
     let (crew, remains) = run_threads(rt, alloc, &site, gate, crew, app);
     let (report, _searched) = finish(rt, alloc, config, site, crew, remains);
     report
+}
+
+// How many processors the threads may run on: many, where the system doesn't say.
+fn processors<R: Threads>(rt: &R) -> usize {
+    match thread::available_parallelism(rt) {
+        Ok(count) => count.get(),
+        Err(_) => usize::MAX,
+    }
 }
 
 // What a node answers that has no memory for its parts.

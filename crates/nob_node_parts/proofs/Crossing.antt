@@ -67,4 +67,4 @@ pub collecting_sync : IsSync (Collecting.the_field).row
 collecting_sync = struct_sync (shape Collecting.the_type) (search (carer_send, crosses, sendable) depth 60 fits 20000, (search (crosses, sendable) depth 60 fits 20000, tt))
 
 pub inboxes_sync : IsSync (Inboxes.the_field).row
-inboxes_sync = struct_sync (shape Inboxes.the_type) (search (inbox_send, crosses, sendable) depth 60 fits 20000, (search (crosses, sendable) depth 60 fits 20000, (search (crosses, sendable) depth 60 fits 20000, tt)))
+inboxes_sync = struct_sync (shape Inboxes.the_type) (search (inbox_send, crosses, sendable) depth 60 fits 20000, (search (crosses, sendable) depth 60 fits 20000, (search (crosses, sendable) depth 60 fits 20000, (search (crosses, sendable) depth 60 fits 20000, tt))))

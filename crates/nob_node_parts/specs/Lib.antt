@@ -4,3 +4,5 @@ pub mod Collected
 pub mod Coming
 pub mod Objects
 pub mod Outboxes
+pub mod Searches
+pub mod Wary

@@ -3,14 +3,16 @@
 use crate::inbox::{Inbox, Taken};
 use crate::lookout::Lookout;
 use crate::pace::Pace;
+use crate::patience::Patience;
+use crate::search::{LookStep, Manner, Search};
 use crossbeam_utils::{Backoff, CachePadded};
 use nob_agents::Calls;
 use std::sync::atomic::{AtomicU64, Ordering};
 use std::sync::{Mutex, Wait};
 use std::thread;
 
-/// How often a thread looks for what it waits for before it sleeps.
-const PATIENCE: u32 = 400;
+/// How often a thread looks at most before it sleeps, whatever else comes meanwhile.
+const MAX_LOOKS: u32 = 20_000;
 
 /// If this many threads came to look since the turn before (after a usual rest, after a longer one),
 /// others come soon.
@@ -25,15 +27,17 @@ pub struct Inboxes {
     // How often a thread without work looked for a parcel.
     turns: CachePadded<AtomicU64>,
     lookout: Lookout,
+    patience: Patience,
 }
 
 impl Inboxes {
-    /// Nothing has come.
-    pub fn new(inboxes: Vec<Mutex<Inbox>>) -> Inboxes {
+    /// Nothing has come; the node runs on so many processors.
+    pub fn new(inboxes: Vec<Mutex<Inbox>>, processors: usize) -> Inboxes {
         Inboxes {
             inboxes,
             turns: CachePadded::new(AtomicU64::new(0)),
             lookout: Lookout::new(),
+            patience: Patience::new(processors),
         }
     }
 
@@ -100,26 +104,60 @@ impl Inboxes {
         requires { F.IsAlwaysCallable is_there }
     {
         self.lookout.come();
-        let has_come = self.look_on(rt, calls, is_there);
-        self.lookout.leave(has_come);
-        has_come
+        let found = self.look_on(rt, calls, self.patience.manner(), is_there);
+        self.lookout.leave(found.is_some());
+        found.is_some()
     }
 
-    fn look_on<C: Calls, R: Wait, F: Fn() -> bool>(&self, rt: &R, calls: &C, is_there: F) -> bool
+    /// The same for a reply. Where replies took long lately others want the processor, most likely: it
+    /// looks less often, and rests between its looks.
+    pub fn look_for_reply<C: Calls, R: Wait, F: Fn() -> bool>(
+        &self,
+        rt: &R,
+        calls: &C,
+        is_there: F,
+    ) -> bool
         requires { F.IsAlwaysCallable is_there }
     {
-        let backoff = Backoff::new();
-        for _ in 0..PATIENCE {
+        self.lookout.come();
+        let wariness = self.patience.wariness();
+        let manner = self.patience.manner_for_reply(wariness);
+        let found = self.look_on(rt, calls, manner, is_there);
+        self.patience.note(wariness, &found);
+        self.lookout.leave(found.is_some());
+        found.is_some()
+    }
+
+    // Looks in some manner, and with more patience once something else has come: the search that found
+    // what is sought, if one did.
+    fn look_on<C: Calls, R: Wait, F: Fn() -> bool>(
+        &self,
+        rt: &R,
+        calls: &C,
+        manner: Manner,
+        is_there: F,
+    ) -> Option<Search>
+        requires { F.IsAlwaysCallable is_there }
+    {
+        let mut search = Search::new(manner);
+        for _ in 0..MAX_LOOKS {
             if is_there() {
-                return true;
+                return Some(search);
             }
             if self.take_next(rt, calls) {
-                backoff.reset();
-            } else {
-                backoff.snooze();
+                if !is_there() {
+                    search = Search::new(self.patience.manner());
+                }
+                continue;
+            }
+            match search.next() {
+                LookStep::Look => look_away(),
+                LookStep::Yield => thread::yield_now(),
+                LookStep::Rest(micros) => self.lookout.pause(rt, micros),
+                LookStep::Sleep => return None,
             }
         }
-        is_there()
+        None
     }
 
     // Takes a parcel from a link, if there is one at a link whose inbox nobody else works on:
@@ -142,6 +180,13 @@ impl Inboxes {
         }
         false
     }
+}
+
+// Leaves what threads share alone for a moment.
+fn look_away() {
+    let backoff = Backoff::new();
+    backoff.spin();
+    backoff.spin();
 }
 
 // A turn of an inbox, if nobody else works on it: whether it did something.

@@ -12,7 +12,9 @@ mod lookout;
 mod object;
 mod outbox;
 mod pace;
+mod patience;
 mod replies;
+mod search;
 mod start;
 mod transmitting;
 
@@ -26,6 +28,8 @@ pub use nob_agents::{Calls, Carer, Prober, Sender, Taker, Turn, Way};
 pub use object::{Kept, LeftObject};
 pub use outbox::{Outbox, Pulse};
 pub use pace::Pace;
+pub use patience::{Patience, Wariness};
 pub use replies::{Coming, Replies, coming_by, has_accepted};
+pub use search::{LookStep, Manner, Search};
 pub use start::Start;
 pub use transmitting::{Sleep, Transmitting};

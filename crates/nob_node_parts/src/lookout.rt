@@ -69,7 +69,17 @@ impl Lookout {
     /// read. Nobody has to wake it.
     pub fn rest<R: Wait>(&self, rt: &R, bell: u64, is_long: bool) {
         let rest = if is_long { LONG_REST } else { REST };
-        self.bell
-            .park_timeout(rt, (bell % (1 << 32)) as u32, Duration::from_micros(rest));
+        self.park(rt, bell, rest);
+    }
+
+    /// One who looks rests for so many microseconds. Nobody has to wake it.
+    pub fn pause<R: Wait>(&self, rt: &R, micros: u64) {
+        let bell = self.bell();
+        self.park(rt, bell, micros);
+    }
+
+    // Rests for so many microseconds at most, where the bell didn't ring since it was read.
+    fn park<R: Wait>(&self, rt: &R, bell: u64, micros: u64) {
+        self.bell.park_timeout(rt, (bell % (1 << 32)) as u32, Duration::from_micros(micros));
     }
 }

@@ -23,7 +23,7 @@ impl Sleep {
     // How many microseconds.
     fn micros(self) -> u64 {
         match self {
-            Sleep::Short => 5,
+            Sleep::Short => 1,
             Sleep::Usual => 100,
             Sleep::Long => 1_000,
         }

@@ -24,12 +24,13 @@ use std::sync::Mutex;
 /// How many errands, and how many objects on their way back, the lanes of a node hold.
 const LANE: usize = 1024;
 
-/// What the threads of a node share, and what each has of its own. Two ends to one peer: the second
-/// pair is let go. Only memory fails it.
+/// What the threads of a node share, and what each has of its own, on so many processors. Two ends to
+/// one peer: the second pair is let go. Only memory fails it.
 pub fn site_of<B: Object>(
     alloc: Global,
     config: &Config,
     ends: Vec<Ends>,
+    processors: usize,
 ) -> Option<(Site<B>, Crew<B>)> {
     let keeper = keeper_of(alloc, config)?;
     let Some((outbox, inboxes, desk, crew)) = crew_of::<B>(alloc, &keeper, config, ends) else {
@@ -37,7 +38,8 @@ pub fn site_of<B: Object>(
         return None;
     };
     let carer = Carer::new(keeper.seat());
-    Some((Site::new(keeper, outbox, inboxes, carer, desk), crew))
+    let site = Site::new(keeper, outbox, inboxes, carer, desk, processors);
+    Some((site, crew))
 }
 
 // A keeper of a new space.

@@ -49,6 +49,7 @@ impl<B: Object> Site<B> {
         inboxes: Vec<Mutex<Inbox>>,
         carer: Carer,
         desk: Desk<Kept<B>>,
+        processors: usize,
     ) -> Site<B> {
         Site {
             keeper,
@@ -57,7 +58,7 @@ impl<B: Object> Site<B> {
             jobs: NodeJobs::new(desk),
             transmitting: Transmitting::new(outbox),
             collecting: Collecting::new(carer),
-            inboxes: Inboxes::new(inboxes),
+            inboxes: Inboxes::new(inboxes, processors),
             replies: Replies::new(),
             idlers: Idlers::new(),
         }
@@ -315,7 +316,7 @@ impl<B: Object> JobCalls for Site<B> {
     ) -> Result<(), KeeperError> {
         let asked = self.replies.asked();
         self.inboxes
-            .look_for(rt, self, || self.replies.is_beside(asked));
+            .look_for_reply(rt, self, || self.replies.is_beside(asked));
         let called = self.keeper.wait_reply_and_look(rt, seat, call);
         let prospects = self.noted(rt, called)?;
         self.follow(rt, seat, prospects);
