@@ -1,9 +1,9 @@
 //! What goes over connections, and when.
 
-use super::link::OutBuffer;
+use super::link::{Link, OutBuffer};
 use super::wire::{self, Kind, Seen};
 use super::{ACK_ITEMS, ACK_WAITS, Engine, LIMITS, NO_PONG, SILENCE, STUCK, TraceSink};
-use crate::space::{Due, Frames, SpaceId};
+use crate::space::{Due, SpaceId};
 use std::time::Duration;
 
 // Whether a sink, where there is one, has taken these lines. One that hasn't is given no more.
@@ -28,6 +28,48 @@ fn put_frames<'a, I: Iterator<Item = Seen<'a>>>(
     let out = out.bytes_mut();
     wire::put_head(out, Kind::Frames, stamp, length);
     frames().for_each(|frame| out.extend(frame.bytes));
+}
+
+// What a Transmit gave: so many bytes, of so many frames, of which so many are new, that is above the greatest number that was
+// given before.
+struct Given {
+    length: usize,
+    known: u64,
+    count: u64,
+    new: u64,
+}
+
+// Whether what a Transmit to a peer would give is to be given now.
+fn is_time_to_transmit(link: &Link, due: Due, now: Duration) -> bool {
+    let owes_ack = || {
+        link.owed >= ACK_ITEMS || link.owed > 0 && now.saturating_sub(link.owed_since) >= ACK_WAITS
+    };
+    match due {
+        Due::Nothing => false,
+        Due::Ack => owes_ack(),
+        Due::Again => link.again || owes_ack(),
+        Due::New | Due::Close => true,
+    }
+}
+
+fn is_new(frame: &Seen<'_>, known: u64) -> bool {
+    !frame.is_data() || frame.seq() > known
+}
+
+// Puts all that isn't acknowledged, in order: how many frames.
+fn put_again(link: &mut Link, stamp: u64, frames: &[u8], known: u64) -> u64 {
+    let all = || wire::frames_of(frames);
+    let is_new = |frame: &Seen<'_>| is_new(frame, known);
+    let first = all().find(|frame| !is_new(frame)).map_or(0, |frame| frame.seq());
+    let is_other = |frame: &Seen<'_>| (first + 1..=known).contains(&frame.seq());
+    let repeated = all().filter(|frame| !is_new(frame));
+    let others = link.sent.frames().filter(is_other);
+    let chosen: Vec<Seen<'_>> = repeated.chain(others).chain(all().filter(is_new)).collect();
+    if !chosen.is_empty() {
+        link.owed = 0;
+        put_frames(&mut link.out, stamp, || chosen.iter().copied());
+    }
+    chosen.len() as u64
 }
 
 impl Engine {
@@ -84,7 +126,18 @@ impl Engine {
 
     // Fills the output to a peer, where it is empty and there is something to write.
     fn fill_for(&mut self, peer: SpaceId, now: Duration) {
+        let due = self.space.due(peer);
         let Some(link) = self.links.get_mut(peer).filter(|link| link.is_up) else { return };
+        let transmits = is_time_to_transmit(link, due, now);
+        link.has_more = !link.out.is_empty();
+        if transmits || !link.is_quiet() || now.saturating_sub(link.heard) >= SILENCE {
+            self.fill_with_all(peer, transmits, now);
+        }
+    }
+
+    #[inline(never)]
+    fn fill_with_all(&mut self, peer: SpaceId, transmits: bool, now: Duration) {
+        let Some(link) = self.links.get_mut(peer) else { return };
         let is_silent = now.saturating_sub(link.heard) >= SILENCE;
         let (was_empty, pings) = (link.out.is_empty(), is_silent && link.pinged.is_none());
         if link.pinged.is_some_and(|since| now.saturating_sub(since) >= NO_PONG) {
@@ -93,7 +146,6 @@ impl Engine {
         if pings {
             link.pinged = Some(now);
         }
-        link.has_more = !was_empty;
         if !was_empty {
             return;
         }
@@ -103,7 +155,7 @@ impl Engine {
         if std::mem::take(&mut link.owes_pong) {
             wire::put_head(link.out.bytes_mut(), Kind::Pong, 0, 0);
         }
-        if self.is_time_to_transmit(peer, now) {
+        if transmits {
             self.transmit(peer);
         }
         let Some(link) = self.links.get_mut(peer) else { return };
@@ -116,80 +168,88 @@ impl Engine {
     }
 
     fn is_time_to_transmit(&self, peer: SpaceId, now: Duration) -> bool {
-        let Some(link) = self.links.get(peer) else { return false };
-        let owes_ack = link.owed >= ACK_ITEMS
-            || link.owed > 0 && now.saturating_sub(link.owed_since) >= ACK_WAITS;
-        match self.space.due(peer) {
-            Due::Nothing => false,
-            Due::Ack => owes_ack,
-            Due::Again => link.again || owes_ack,
-            Due::New | Due::Close => true,
-        }
+        let link = self.links.get(peer);
+        link.is_some_and(|link| is_time_to_transmit(link, self.space.due(peer), now))
     }
 
-    // One Transmit, of which new frames are kept until they are acknowledged: all that it gave, and the
-    // greatest number that was given before.
-    pub(super) fn give(&mut self, peer: SpaceId) -> Option<(Frames, u64)> {
-        let frames = self.space.transmit(peer);
+    // One Transmit, whose frames it puts there. New ones are kept until they are acknowledged.
+    fn give_in(&mut self, peer: SpaceId, room: &mut Vec<u8>) -> Option<Given> {
+        let length = self.space.transmit_in(peer, room);
         let link = self.links.get_mut(peer)?;
-        let Ok(frames) = frames else {
+        let Ok(length) = length else {
             self.counts.wants += 1;
             link.has_more = true;
             return None;
         };
-        let known = link.given;
-        let mut count = 0_usize;
-        for frame in wire::frames_of(frames.as_bytes()) {
-            count += 1;
-            if frame.seq() > known {
+        let mut given = Given { length, known: link.given, count: 0, new: 0 };
+        for frame in wire::frames_of(&room[..length]) {
+            let is_new = frame.seq() > given.known;
+            given.count += 1;
+            given.new += u64::from(is_new || !frame.is_data());
+            if is_new {
                 link.gave(&frame);
             }
         }
-        link.has_more = count >= usize::from(LIMITS.window());
-        Some((frames, known))
+        link.has_more = given.count >= u64::from(LIMITS.window());
+        Some(given)
     }
 
-    // Writes what one Transmit gives. The item that it repeats is left out, since this connection has it
+    // One Transmit to a peer without a connection: its new frames are kept.
+    pub(super) fn give(&mut self, peer: SpaceId) {
+        let mut frames = std::mem::take(&mut self.frames);
+        let _given = self.give_in(peer, &mut frames);
+        self.frames = frames;
+    }
+
+    // Writes what one Transmit gives.
+    #[inline(never)]
+    fn transmit(&mut self, peer: SpaceId) {
+        let mut frames = std::mem::take(&mut self.frames);
+        if let Some(given) = self.give_in(peer, &mut frames) {
+            self.put(peer, &frames[..given.length], &given);
+        }
+        self.frames = frames;
+    }
+
+    // Puts the frames of a Transmit to what is to be written. The item that it repeats is left out, since this connection has it
     // already; but where nothing else says an acknowledgement that is owed, it is written again. Where
     // anything may have been lost, all that isn't acknowledged is.
-    fn transmit(&mut self, peer: SpaceId) {
-        let Some((frames, known)) = self.give(peer) else { return };
+    fn put(&mut self, peer: SpaceId, frames: &[u8], given: &Given) {
         let stamp = self.space.stamp();
         let Some(link) = self.links.get_mut(peer) else { return };
-        let all = || wire::frames_of(frames.as_bytes());
-        let is_new = |frame: &Seen<'_>| !frame.is_data() || frame.seq() > known;
         if std::mem::take(&mut link.again) {
-            let first = all().find(|frame| !is_new(frame)).map_or(0, |frame| frame.seq());
-            let is_other = |frame: &Seen<'_>| (first + 1..=known).contains(&frame.seq());
-            let repeated = all().filter(|frame| !is_new(frame));
-            let others = link.sent.frames().filter(is_other);
-            let chosen: Vec<Seen<'_>> =
-                repeated.chain(others).chain(all().filter(is_new)).collect();
-            self.counts.frames_out += chosen.len() as u64;
-            if !chosen.is_empty() {
-                link.owed = 0;
-                put_frames(&mut link.out, stamp, || chosen.iter().copied());
-            }
+            self.counts.frames_out += put_again(link, stamp, frames, given.known);
             return;
         }
-        let new = all().filter(is_new).count() as u64;
-        let repeats = new == 0 && link.owed > 0;
-        let written = || all().filter(|frame| repeats || is_new(frame));
-        if !repeats {
-            self.counts.frames_left_out += all().count() as u64 - new;
+        let repeats = given.new == 0 && link.owed > 0;
+        let put = if repeats { given.count } else { given.new };
+        self.counts.frames_left_out += given.count - put;
+        self.counts.frames_out += put;
+        if put == 0 {
+            return;
         }
-        self.counts.frames_out += written().count() as u64;
-        if written().next().is_some() {
-            link.owed = 0;
-            put_frames(&mut link.out, stamp, written);
+        link.owed = 0;
+        if put == given.count {
+            let out = link.out.bytes_mut();
+            wire::put_head(out, Kind::Frames, stamp, frames.len());
+            out.extend(frames);
+        } else {
+            let known = given.known;
+            put_frames(&mut link.out, stamp, || {
+                wire::frames_of(frames).filter(move |frame| is_new(frame, known))
+            });
         }
     }
 
     // The entries go to their sinks before the bytes leave: those of the trace, and those of the chain, with its seals.
     pub(super) fn flush(&mut self) {
-        if !self.space.is_recorded() {
-            return;
+        if self.space.is_recorded() {
+            self.flush_lines();
         }
+    }
+
+    #[inline(never)]
+    fn flush_lines(&mut self) {
         let lines = self.space.take_lines();
         self.counts.trace_faults += u64::from(!is_put(&mut self.sink, &lines));
         let lines = self.space.take_chain_lines();

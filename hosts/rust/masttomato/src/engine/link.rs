@@ -304,6 +304,11 @@ impl Link {
         self.refused.is_none() && !matches!(self.session, Session::Closed(_))
     }
 
+    /// Whether nothing is to be written but what a Transmit gives, and nothing waits for a pong.
+    pub(super) fn is_quiet(&self) -> bool {
+        self.out.is_empty() && self.pinged.is_none() && !(self.owes_pong | self.says_bye)
+    }
+
     /// Whether there was no room, and nothing was acknowledged since.
     pub(super) fn is_blocked(&self) -> bool {
         self.is_open() && self.blocked_at == Some(self.acked)

@@ -427,6 +427,8 @@ pub struct Engine {
     turn: Turn,
     counts: Counts,
     turned_away: Option<TurnedAway>,
+    // Where frames are put that a Transmit gives.
+    frames: Vec<u8>,
     sink: Option<Box<dyn TraceSink>>,
     chain_sink: Option<Box<dyn TraceSink>>,
 }
@@ -436,6 +438,15 @@ struct Claimed {
     client: SpaceId,
     since: Duration,
     lent: Lent,
+}
+
+// What came of a call that was to be made.
+enum Made {
+    As(CallNo),
+    // It never will be.
+    Never(Answered),
+    // There is no room for it now.
+    Waits,
 }
 
 impl fmt::Debug for Engine {
@@ -534,6 +545,7 @@ impl Engine {
             turn: Turn::default(),
             counts: Counts::default(),
             turned_away: None,
+            frames: Vec::new(),
             sink: None,
             chain_sink: None,
         }
@@ -910,16 +922,29 @@ impl Engine {
     /// # Ok::<(), Box<dyn std::error::Error>>(())
     /// ```
     pub fn call(&mut self, ticket: Ticket, target: Reference, method: u16, value: Value) {
-        self.tickets.insert(ticket, None);
+        let _number = self.call_or_wait(ticket, target, method, value);
+    }
+
+    /// As `call`: the call's number, if it was made at once.
+    pub(crate) fn call_or_wait(
+        &mut self,
+        ticket: Ticket,
+        target: Reference,
+        method: u16,
+        value: Value,
+    ) -> Option<CallNo> {
         let mut call = HeldCall { ticket, target, method, value, holds: Vec::new() };
-        if self.make_now(&call) {
-            return;
+        let made = self.make_now(&call);
+        if !matches!(made, Made::Waits) {
+            return self.is_made(ticket, made);
         }
+        self.tickets.insert(ticket, None);
         call.holds = self.hold_all(call.value.references().into_iter().chain([target]));
         if let Some(link) = self.links.get_mut(target.owner) {
             link.calls.push_back(call);
             self.has_held = true;
         }
+        None
     }
 
     /// Calls as [`Engine::call`] does, but only where there is room for it now; else what comes of it is
@@ -939,34 +964,60 @@ impl Engine {
     /// # Ok::<(), Box<dyn std::error::Error>>(())
     /// ```
     pub fn try_call(&mut self, ticket: Ticket, target: Reference, method: u16, value: Value) {
-        self.tickets.insert(ticket, None);
-        if !self.make_now(&HeldCall { ticket, target, method, value, holds: Vec::new() }) {
-            self.answer(ticket, Answered::Busy);
-        }
+        let _number = self.try_to_call(ticket, target, method, value);
     }
 
-    // Whether no other call waits for room and so this one was made, or never will be.
-    fn make_now(&mut self, call: &HeldCall) -> bool {
+    /// As `try_call`: the call's number, if it was made.
+    pub(crate) fn try_to_call(
+        &mut self,
+        ticket: Ticket,
+        target: Reference,
+        method: u16,
+        value: Value,
+    ) -> Option<CallNo> {
+        let made =
+            match self.make_now(&HeldCall { ticket, target, method, value, holds: Vec::new() }) {
+                Made::Waits => Made::Never(Answered::Busy),
+                made => made,
+            };
+        self.is_made(ticket, made)
+    }
+
+    // Writes down what came of a call that doesn't wait any more: its number, if it was made.
+    fn is_made(&mut self, ticket: Ticket, made: Made) -> Option<CallNo> {
+        let number = match made {
+            Made::As(number) => number,
+            Made::Never(answered) => {
+                self.tickets.remove(&ticket);
+                self.turn.answers.push((ticket, answered));
+                return None;
+            }
+            Made::Waits => return None,
+        };
+        self.tickets.insert(ticket, Some(number));
+        Some(number)
+    }
+
+    // Makes a call, if no other one waits for room.
+    fn make_now(&mut self, call: &HeldCall) -> Made {
         let Some(link) = self.links.get(call.target.owner) else {
-            self.answer(call.ticket, Answered::Down(call.target.owner));
-            return true;
+            return Made::Never(Answered::Down(call.target.owner));
         };
         let is_first = link.calls.is_empty() && !link.is_blocked();
-        is_first && self.calls.len() < self.settings.open_calls && self.make(call)
+        let has_room = is_first && self.calls.len() < self.settings.open_calls;
+        if has_room { self.make(call) } else { Made::Waits }
     }
 
-    // Whether the call was made, or never will be.
-    fn make(&mut self, call: &HeldCall) -> bool {
+    fn make(&mut self, call: &HeldCall) -> Made {
         let HeldCall { ticket, target, method, value, .. } = call;
         let peer = target.owner;
-        let not_made = match self.space.call(*target, *method, value) {
+        Made::Never(match self.space.call(*target, *method, value) {
             Ok(number) => {
                 self.counts.calls_made += 1;
                 self.calls.insert(number, (*ticket, peer));
-                self.tickets.insert(*ticket, Some(number));
-                return true;
+                return Made::As(number);
             }
-            Err(error) if self.is_want_of_room(peer, error) => return false,
+            Err(error) if self.is_want_of_room(peer, error) => return Made::Waits,
             Err(SpaceError::NotCovered) => {
                 self.counts.not_covered += 1;
                 Answered::NotCovered
@@ -974,14 +1025,12 @@ impl Engine {
             // What is asked of the agent waits until the session is open again.
             Err(SpaceError::Refused(Refusal::Closed)) if target.index == 0 && self.renews(peer) => {
                 self.has_renewals = true;
-                return false;
+                return Made::Waits;
             }
             Err(SpaceError::Refused(Refusal::TooBig)) => Answered::TooLarge,
             Err(_) if self.links.get(peer).is_some_and(Link::is_open) => Answered::Lost,
             Err(_) => self.down(peer),
-        };
-        self.answer(*ticket, not_made);
-        true
+        })
     }
 
     // Why nothing goes to a peer whose session has closed.

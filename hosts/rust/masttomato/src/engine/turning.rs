@@ -2,8 +2,8 @@
 
 use super::link::Link;
 use super::wire::ItemKind;
-use super::{Claimed, Engine, LOOK, NO_ROOM, TICKS, Turn};
-use crate::space::{Due, Outcome, Reason, Reference, Refusal, SpaceError, SpaceId};
+use super::{Answered, Claimed, Engine, LOOK, Made, NO_ROOM, TICKS, Ticket, Turn};
+use crate::space::{Due, Job, Outcome, Reason, Reference, Refusal, SpaceError, SpaceId};
 use std::time::Duration;
 
 /// What a space may have to do by itself, by what happened since it was asked in vain. To ask it costs little, to look what
@@ -64,7 +64,7 @@ impl Stirred {
     }
 
     fn any(&self, claims: bool) -> bool {
-        self.settle || self.clean || self.withdraw || self.claim && claims
+        self.settle | self.clean | self.withdraw | (self.claim & claims)
     }
 }
 
@@ -145,6 +145,20 @@ impl Engine {
 
     /// The same, but what it gives is put to what was given before.
     pub(crate) fn go_on(&mut self, now: Duration) {
+        if !self.is_idle(now) {
+            self.go_on_with_all(now);
+        }
+    }
+
+    // Whether there is nothing to do.
+    fn is_idle(&self, now: Duration) -> bool {
+        let tries_again = self.has_stuck | self.has_renewals | self.has_held;
+        let has_any = self.stirred.any(self.claims) | !self.ready.is_empty();
+        !(tries_again | has_any) && now < self.look_at
+    }
+
+    #[inline(never)]
+    fn go_on_with_all(&mut self, now: Duration) {
         if std::mem::take(&mut self.has_stuck) {
             for peer in self.peers.clone().iter() {
                 self.act(*peer, now);
@@ -194,6 +208,26 @@ impl Engine {
     /// What was given since it was taken last, in place of an empty turn whose room is used again.
     pub(crate) fn swap_turn(&mut self, empty: &mut Turn) {
         std::mem::swap(&mut self.turn, empty);
+    }
+
+    /// Whether any call was answered since that was taken last.
+    pub(crate) fn has_answers(&self) -> bool {
+        !self.turn.answers.is_empty()
+    }
+
+    /// The answers that were given since they were taken last, in place of none, whose room is used again.
+    pub(crate) fn swap_answers(&mut self, empty: &mut Vec<(Ticket, Answered)>) {
+        std::mem::swap(&mut self.turn.answers, empty);
+    }
+
+    /// Whether any job was claimed since that was taken last.
+    pub(crate) fn has_jobs(&self) -> bool {
+        !self.turn.jobs.is_empty()
+    }
+
+    /// The jobs that were claimed since they were taken last, in place of none, whose room is used again.
+    pub(crate) fn swap_jobs(&mut self, empty: &mut Vec<Job>) {
+        std::mem::swap(&mut self.turn.jobs, empty);
     }
 
     /// From now on no job is claimed.
@@ -327,7 +361,9 @@ impl Engine {
             while self.calls.len() < self.settings.open_calls
                 && let Some(call) = self.next_held(*peer, |link| link.calls.pop_front())
             {
-                if self.make(&call) {
+                let made = self.make(&call);
+                if !matches!(made, Made::Waits) {
+                    let _number = self.is_made(call.ticket, made);
                     self.release_all(call.holds);
                 } else if let Some(link) = self.links.get_mut(*peer) {
                     link.calls.push_front(call);
@@ -385,7 +421,7 @@ impl Engine {
         link.again = true;
         if !link.is_up && due == Due::New {
             // A tick counts only what was transmitted: so it is, and waits for a connection.
-            let _kept = self.give(peer);
+            self.give(peer);
         }
         if let Ok(Some(reason)) = self.space.tick(peer) {
             self.closed(peer, reason);

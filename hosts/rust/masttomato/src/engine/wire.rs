@@ -380,9 +380,11 @@ pub(crate) enum Kind {
 
 /// Puts a record's head behind other bytes; its body, of this length, is to follow.
 pub(crate) fn put_head(out: &mut Vec<u8>, kind: Kind, stamp: u64, length: usize) {
-    out.extend((length as u32).to_be_bytes());
-    out.extend([kind as u8, 0, 0, 0]);
-    out.extend(stamp.to_be_bytes());
+    let mut head = [0; HEAD];
+    head[..4].copy_from_slice(&(length as u32).to_be_bytes());
+    head[4] = kind as u8;
+    head[8..].copy_from_slice(&stamp.to_be_bytes());
+    out.extend_from_slice(&head);
 }
 
 /// The record at the front of some bytes: what it is for, its stamp, and how long its body is. `None`

@@ -47,9 +47,14 @@ impl Reckoning {
         self.ready as u64
     }
 
+    /// Whether more are to be ready than are.
+    pub(crate) fn is_short(&self) -> bool {
+        self.asked >= SELDOM && self.ready < self.asked
+    }
+
     /// Has as many ready as are to be. Where no more can be exported it isn't tried again before the node was asked as often anew.
     pub(crate) fn fill(&mut self, ahead: &Ahead, mut export: impl FnMut() -> Option<Reference>) {
-        if self.asked < SELDOM || self.ready >= self.asked {
+        if !self.is_short() {
             return;
         }
         let mut all = ahead.all();

@@ -16,7 +16,7 @@ use std::hint;
 use std::marker::PhantomData;
 use std::pin::Pin;
 use std::sync::atomic::{AtomicBool, AtomicU64, Ordering};
-use std::sync::{Arc, Condvar, Mutex, MutexGuard, OnceLock};
+use std::sync::{Arc, Condvar, Mutex, MutexGuard};
 use std::task::{Context, Poll, Waker};
 use std::time::{Duration, Instant};
 
@@ -165,6 +165,9 @@ const MOST_LOOKS: u32 = 8;
 /// What a call came to, before it is known of which type the answer is to be.
 pub(crate) type Completed = Result<Packed, CallError>;
 
+/// What is called, and by which method. A name that is looked up in another way is still the same call.
+pub(crate) type Aim = (Reference, u16);
+
 #[derive(Debug, Default)]
 struct Slot {
     completed: Option<Completed>,
@@ -201,8 +204,8 @@ pub(crate) struct CallState {
     // Of a call of an own object: whether it was cancelled.
     cancel: Cancel,
     span: CallSpan,
-    // What is called, and by which method, once its node knows.
-    aim: OnceLock<(Reference, u16)>,
+    // What is called, and by which method.
+    aim: Option<Aim>,
 }
 
 impl CallState {
@@ -222,6 +225,11 @@ impl CallState {
         }
     }
 
+    // What came of it, where that is there and wasn't taken.
+    fn take_completed(&self) -> Option<Completed> {
+        if self.is_done.load(Ordering::Acquire) { self.slot().completed.take() } else { None }
+    }
+
     /// Rouses the thread that sleeps until the answer comes.
     pub(crate) fn rouse(&self) {
         self.ready.notify_one();
@@ -239,12 +247,10 @@ impl CallState {
     /// What is called.
     pub(crate) fn calls(&self, target: Reference, method: u16) {
         self.span.calls(target, method);
-        // A name that is looked up in another way is still the same call.
-        let _known = self.aim.set((target, method));
     }
 
-    pub(crate) fn aim(&self) -> Option<(Reference, u16)> {
-        self.aim.get().copied()
+    pub(crate) fn aim(&self) -> Option<Aim> {
+        self.aim
     }
 }
 
@@ -287,9 +293,10 @@ impl<T> fmt::Debug for Call<T> {
 impl<T> Call<T> {
     pub(crate) fn posted(
         shared: &Arc<Shared>,
+        aim: Aim,
         command: impl FnOnce(Ticket, Arc<CallState>) -> Command,
     ) -> Call<T> {
-        let state = Arc::new(CallState::default());
+        let state = Arc::new(CallState { aim: Some(aim), ..CallState::default() });
         let ticket = shared.next_ticket();
         let call = Call {
             shared: shared.clone(),
@@ -441,7 +448,7 @@ impl<T: Pass> Call<T> {
 
     fn wait_until(&mut self, end: Option<Instant>) -> Result<T, CallError> {
         let completed = match driving(&self.shared) {
-            Some(driver) => driver.turn_until(end, || self.state.slot().completed.take()),
+            Some(driver) => driver.turn_until(end, || self.state.take_completed()),
             None => self.sleep_until(end),
         };
         self.taken(completed.unwrap_or(Err(CallError::TimedOut)))

@@ -18,6 +18,12 @@ impl Cancel {
         self.is_cancelled.load(SeqCst)
     }
 
+    /// Whether it is as it was made.
+    pub(crate) fn is_unused(&mut self) -> bool {
+        let wakers = self.wakers.get_mut().unwrap_or_else(PoisonError::into_inner);
+        !*self.is_cancelled.get_mut() && wakers.is_empty()
+    }
+
     fn wakers(&self) -> MutexGuard<'_, Vec<Waker>> {
         self.wakers.lock().unwrap_or_else(PoisonError::into_inner)
     }

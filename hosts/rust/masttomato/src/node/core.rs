@@ -27,8 +27,8 @@ use std::time::{Duration, Instant};
 const PUT: u16 = 0;
 const GET: u16 = 1;
 const REMOVE: u16 = 2;
-const LOOKUP: u16 = 16;
-const DESCRIBE: u16 = 17;
+pub(super) const LOOKUP: u16 = 16;
+pub(super) const DESCRIBE: u16 = 17;
 const CANCEL: u16 = 18;
 /// Its faults.
 const ARGUMENT: i64 = 1;
@@ -41,6 +41,8 @@ const LONGEST_NAME: usize = 255;
 /// So many objects that were withdrawn are dropped at once, or those of so long.
 const DROPS: usize = 64;
 const DROP_WAITS: Duration = Duration::from_millis(1);
+/// So many that weren't used are kept for the next jobs.
+const SPARE: usize = 64;
 
 /// A call that an object is to carry out.
 struct Work {
@@ -239,11 +241,14 @@ pub(crate) struct Core {
     calls: ByNumber<Ticket, OpenCall>,
     // Calls of others that wait in an object's line, or run.
     cancels: ByTheirNumber<Caller, Arc<Cancel>>,
+    spare: Vec<Arc<Cancel>>,
     steps: VecDeque<Step>,
     pool: Option<Arc<Pool>>,
     spawner: Option<Arc<dyn Spawn>>,
     ahead: Reckoning,
-    // Empty, but its room is used again.
+    // Empty, but their room is used again.
+    answers: Vec<(Ticket, Answered)>,
+    jobs: Vec<Job>,
     turn: Turn,
     watchers: Vec<mpsc::Sender<(SpaceId, Session)>>,
     running: usize,
@@ -251,6 +256,8 @@ pub(crate) struct Core {
     /// Peers whose sessions were opened anew: they are connected to at once.
     pub(crate) opened: Vec<SpaceId>,
     started: Instant,
+    // Since it was started: when this turn began, or the last method of it on the node's own thread ended.
+    now: Duration,
     pub(crate) stops_at: Option<Instant>,
     /// Who waits for what has come, and is to be roused once nothing of the node is borrowed.
     pub(crate) rouses: Vec<Rouse>,
@@ -274,16 +281,20 @@ impl Core {
             others: HashMap::new(),
             calls: ByNumber::default(),
             cancels: ByTheirNumber::default(),
+            spare: Vec::new(),
             steps: VecDeque::new(),
             pool,
             spawner,
             ahead: Reckoning::default(),
+            answers: Vec::new(),
+            jobs: Vec::new(),
             turn: Turn::default(),
             watchers: Vec::new(),
             running: 0,
             silent: Vec::new(),
             opened: Vec::new(),
             started,
+            now: Duration::ZERO,
             stops_at: None,
             rouses: Vec::new(),
             withdrawn: Vec::new(),
@@ -299,6 +310,21 @@ impl Core {
     /// How many methods run.
     pub(crate) fn running(&self) -> usize {
         self.running
+    }
+
+    /// It is so long since it was started.
+    pub(crate) fn is_now(&mut self, now: Duration) {
+        self.now = now;
+    }
+
+    /// The time, as far as that was said.
+    pub(crate) fn since(&self) -> Instant {
+        self.started + self.now
+    }
+
+    /// Whether anybody is to be roused.
+    pub(crate) fn has_rouses(&self) -> bool {
+        !self.rouses.is_empty()
     }
 
     pub(crate) fn command(&mut self, command: Command) {
@@ -363,8 +389,8 @@ impl Core {
         self.objects.insert(reference.index, object);
     }
 
-    /// Exports ahead, where objects are often exported from other threads.
-    pub(crate) fn export_ahead(&mut self) {
+    // Exports ahead, where objects are often exported from other threads.
+    fn export_ahead(&mut self) {
         if self.stops_at.is_none() {
             self.ahead.fill(self.shared.ahead(), || self.engine.export().ok());
         }
@@ -441,11 +467,10 @@ impl Core {
         }
         let is_try = matches!(purpose, Purpose::Try);
         self.calls.insert(ticket, OpenCall { owner, state: state.clone(), purpose });
-        match is_try {
-            true => self.engine.try_call(ticket, target.reference(), method, packed.value),
-            false => self.engine.call(ticket, target.reference(), method, packed.value),
-        }
-        let number = self.engine.number(ticket);
+        let number = match is_try {
+            true => self.engine.try_to_call(ticket, target.reference(), method, packed.value),
+            false => self.engine.call_or_wait(ticket, target.reference(), method, packed.value),
+        };
         for reference in dropped(packed.holds) {
             match number {
                 Some(_) => self.engine.release_sent(reference),
@@ -584,6 +609,12 @@ impl Core {
     /// Does all that the engine has to do, up to what is to be written.
     pub(crate) fn work(&mut self, now: Duration) {
         self.engine.go_on(now);
+        if self.engine.has_answers() {
+            self.all_answered();
+        }
+        if self.engine.has_jobs() {
+            self.all_jobs();
+        }
         if self.engine.has_given() {
             let mut turn = std::mem::take(&mut self.turn);
             self.engine.swap_turn(&mut turn);
@@ -592,7 +623,27 @@ impl Core {
         }
     }
 
-    // What the engine gave, of which nothing is left then.
+    // Answers that the engine gave.
+    fn all_answered(&mut self) {
+        let mut answers = std::mem::take(&mut self.answers);
+        self.engine.swap_answers(&mut answers);
+        for (ticket, answered) in answers.drain(..) {
+            self.answered(ticket, answered);
+        }
+        self.answers = answers;
+    }
+
+    // Jobs that the engine gave.
+    fn all_jobs(&mut self) {
+        let mut jobs = std::mem::take(&mut self.jobs);
+        self.engine.swap_jobs(&mut jobs);
+        for job in jobs.drain(..) {
+            self.job(job);
+        }
+        self.jobs = jobs;
+    }
+
+    // What else the engine gave, of which nothing is left then.
     fn given(&mut self, turn: &mut Turn, now: Duration) {
         for (ticket, answered) in turn.answers.drain(..) {
             self.answered(ticket, answered);
@@ -693,7 +744,7 @@ impl Core {
             packed.holds.iter().for_each(|hold| hold.end_loan(false));
             return self.engine.finish(job, Outcome::NoMethod);
         };
-        let (caller, cancel) = ((client, call), Arc::new(Cancel::default()));
+        let (caller, cancel) = ((client, call), self.spare.pop().unwrap_or_default());
         if self.engine.is_cancelled(client, call) {
             let _nobody = cancel.set();
         }
@@ -725,33 +776,28 @@ impl Core {
             let Place::Here(there) = std::mem::replace(&mut object.place, Place::Away(own)) else {
                 return;
             };
+            let caller = match &end {
+                End::Job { caller: (client, _), .. } => *client,
+                End::Local(_) => self.engine.id(),
+            };
             let arguments = Arguments { packed, shared: self.shared.clone() };
-            let context = self.context(&end, heard);
-            self.begin(Task { index, object: there, method, arguments, context, loans, end }, run);
+            let context = Context::new(caller, heard, self.shared.clone());
+            let task = Task { index, object: there, method, arguments, context, loans, end };
+            object.running = Some((task.running(), self.started + self.now));
+            return self.begin(task, run);
         }
-    }
-
-    fn context(&self, end: &End, heard: Heard) -> Context {
-        let caller = match end {
-            End::Job { caller: (client, _), .. } => *client,
-            End::Local(_) => self.engine.id(),
-        };
-        Context::new(caller, heard, self.shared.clone())
     }
 
     // A method begins, where it is to run.
     fn begin(&mut self, task: Task, run: Run) {
         self.running += 1;
-        if let Some(object) = self.objects.get_mut(&task.index) {
-            object.running = Some((task.running(), Instant::now()));
-        }
-        let pool = self.pool.clone().filter(|_| run == Run::Pool);
         if !task.object.is_async(task.method) {
-            return match pool {
+            return match self.pool_of(run) {
                 Some(pool) => pool.run(task),
                 None => self.steps.push_back(Step::Run(task)),
             };
         }
+        let pool = self.pool_of(run).cloned();
         let later = task.later(&self.shared);
         match (pool, &self.spawner) {
             (Some(_), Some(spawner)) => {
@@ -760,6 +806,11 @@ impl Core {
             (Some(pool), None) => Turned::begin(later, Turner::Workers(pool)),
             (None, _) => Turned::begin(later, Turner::Thread(self.shared.clone())),
         }
+    }
+
+    // Who runs an object's methods, if it isn't the node's own thread.
+    fn pool_of(&self, run: Run) -> Option<&Arc<Pool>> {
+        self.pool.as_ref().filter(|_| run == Run::Pool)
     }
 
     /// What is to be done next on the node's own thread.
@@ -771,19 +822,24 @@ impl Core {
     pub(crate) fn done(&mut self, done: Done) {
         let Done { index, object, served, loans, end } = done;
         self.running -= 1;
+        let mut has_more = false;
         if let Some(slot) = self.objects.get_mut(&index) {
             slot.place = object.map_or(Place::Broken, Place::Here);
             slot.running = None;
+            has_more = !slot.line.is_empty();
         }
         self.end(served, loans, end);
-        self.start(index);
+        if has_more {
+            self.start(index);
+        }
     }
 
     // What came of a call goes to who made it.
     fn end(&mut self, served: Served, loans: Vec<Arc<Hold>>, end: End) {
         match end {
-            End::Job { job, caller, .. } => {
+            End::Job { job, caller, cancel } => {
                 self.cancels.remove(&caller);
+                self.keep(cancel);
                 self.finish(job, served, loans);
             }
             End::Local(own) => {
@@ -796,6 +852,14 @@ impl Core {
                 };
                 self.rouses.extend(own.answer(completed));
             }
+        }
+    }
+
+    // Keeps what the next job can have, where nobody else has it and it wasn't used.
+    fn keep(&mut self, mut cancel: Arc<Cancel>) {
+        let is_unused = Arc::get_mut(&mut cancel).is_some_and(Cancel::is_unused);
+        if is_unused && self.spare.len() < SPARE {
+            self.spare.push(cancel);
         }
     }
 
@@ -828,12 +892,16 @@ impl Core {
         dropped.into_iter().for_each(|reference| self.engine.release(reference));
     }
 
-    /// Objects that are to be dropped once nothing of the node is borrowed, where no worker drops them.
-    pub(crate) fn take_leftovers(&mut self) -> Vec<Box<dyn Exported>> {
-        match &self.pool {
-            Some(_) => Vec::new(),
-            None => std::mem::take(&mut self.withdrawn),
-        }
+    /// Whether there is anything to do at the end of a turn.
+    pub(crate) fn has_to_leave(&self) -> bool {
+        !self.withdrawn.is_empty() || self.ahead.is_short()
+    }
+
+    /// The end of a turn: objects that are to be dropped once nothing of the node is borrowed, where no worker drops them.
+    pub(crate) fn leave(&mut self, now: Duration) -> Vec<Box<dyn Exported>> {
+        self.export_ahead();
+        self.drop_withdrawn(now, false);
+        if self.has_thread() { Vec::new() } else { std::mem::take(&mut self.withdrawn) }
     }
 
     /// Workers drop the objects that were withdrawn: some at once, so that a worker is woken less often; all of them
@@ -879,6 +947,9 @@ impl Core {
 // Drops holds. Of those that nobody else has it answers the references that were in the hand, which are to be given back
 // right away: so that no command of their drop does.
 fn dropped(holds: Vec<Arc<Hold>>) -> Vec<Reference> {
+    if holds.is_empty() {
+        return Vec::new();
+    }
     let is_last = |hold: &Arc<Hold>| Arc::strong_count(hold) == 1 && hold.lose();
     holds.into_iter().filter(is_last).map(|hold| hold.reference()).collect()
 }

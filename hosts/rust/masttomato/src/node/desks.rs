@@ -30,17 +30,17 @@ impl Desk {
     }
 
     /// From now on it does this.
-    pub(crate) fn does(&self, doing: Doing) {
+    pub(crate) fn does(&self, doing: Doing, now: Instant) {
         let mut state = self.state();
         if state.doing != doing {
-            (state.doing, state.since) = (doing, Instant::now());
+            (state.doing, state.since) = (doing, now);
         }
     }
 
     /// It carries out a method.
-    pub(crate) fn runs(&self, method: Running) {
+    pub(crate) fn runs(&self, method: Running, now: Instant) {
         let mut state = self.state();
-        (state.doing, state.since) = (Doing::Runs(method), Instant::now());
+        (state.doing, state.since) = (Doing::Runs(method), now);
     }
 
     fn report(&self) -> ThreadReport {

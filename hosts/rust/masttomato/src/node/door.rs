@@ -161,10 +161,10 @@ impl Keeper {
             let now = Instant::now();
             let next = self.strangers.values().map(|stranger| stranger.until).min();
             let limit = next.map(|until| until.saturating_duration_since(now));
-            desk.does(Doing::Rests);
+            desk.does(Doing::Rests, Instant::now());
             // A poll that is interrupted is one that nothing came to.
             let _polled = self.poll.poll(&mut events, limit);
-            desk.does(Doing::Works);
+            desk.does(Doing::Works, Instant::now());
             if !self.take_asked() {
                 return;
             }

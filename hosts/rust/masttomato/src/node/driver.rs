@@ -77,55 +77,64 @@ impl Driver {
 
     /// Asks the node's tables, on their own thread.
     pub(crate) fn ask<T>(&self, ask: impl FnOnce(&mut Core) -> T) -> T {
+        self.core.borrow_mut().is_now(self.now());
         self.take_commands();
         ask(&mut self.core.borrow_mut())
     }
 
     // Whether there were any.
     fn take_commands(&self) -> bool {
-        if !self.shared.has_commands() {
-            return false;
+        let has_some = self.shared.has_commands();
+        if has_some {
+            self.take_all_commands();
         }
+        has_some
+    }
+
+    #[inline(never)]
+    fn take_all_commands(&self) {
         let mut commands = self.commands.take();
         self.shared.take(&mut commands);
         for command in commands.drain(..) {
             self.core.borrow_mut().command(command);
         }
         self.commands.replace(commands);
-        true
     }
 
-    /// Does what there is to do: whether there is more to do at once.
-    pub(crate) fn turn(&self) -> bool {
-        let now = self.now();
+    /// Does what there is to do at this time: whether there is more to do at once.
+    fn turn(&self, now: Duration) -> bool {
+        self.core.borrow_mut().is_now(now);
         self.take_commands();
-        for peer in self.core.borrow_mut().opened.drain(..) {
-            self.net.borrow_mut().dial_soon(peer, now);
-        }
-        self.net.borrow_mut().read(&mut self.core.borrow_mut().engine, now);
+        self.read(now);
         self.work(now);
         // What was asked for meanwhile goes with the rest; what else it brings is for the next turn.
         let was_asked = self.take_commands();
-        self.core.borrow_mut().engine.fill(now);
-        self.write(now);
+        let has_more = self.write(now);
         self.leave(now);
-        let has_more = self.core.borrow().engine.has_more(now) || self.net.borrow().has_more();
         was_asked || has_more || self.shared.has_commands()
+    }
+
+    fn read(&self, now: Duration) {
+        let (mut net, mut core) = (self.net.borrow_mut(), self.core.borrow_mut());
+        while let Some(peer) = core.opened.pop() {
+            net.dial_soon(peer, now);
+        }
+        net.read(&mut core.engine, now);
     }
 
     // Does all that the engine has to do, and the methods that run on this thread.
     fn work(&self, now: Duration) {
         loop {
             self.core.borrow_mut().work(now);
-            let mut did = false;
-            while let Some(step) = self.next_step() {
+            let Some(mut step) = self.next_step() else { return };
+            loop {
                 // Whoever has its answer needn't wait for the end of a method.
                 self.rouse(false);
                 self.make(step);
-                did = true;
-            }
-            if !did {
-                return;
+                match self.next_step() {
+                    Some(next) => step = next,
+                    None => break,
+                }
             }
         }
     }
@@ -138,10 +147,13 @@ impl Driver {
     fn make(&self, step: Step) {
         match step {
             Step::Run(task) => {
-                self.desk.runs(task.running());
+                self.desk.runs(task.running(), self.core.borrow().since());
                 let done = task.run();
-                self.desk.does(Doing::Works);
-                self.core.borrow_mut().done(done);
+                // It may have taken long.
+                let mut core = self.core.borrow_mut();
+                core.is_now(self.now());
+                self.desk.does(Doing::Works, core.since());
+                core.done(done);
             }
             Step::Turn(method) => method.turn(),
             Step::Spawn(later, spawner) => {
@@ -151,21 +163,21 @@ impl Driver {
         }
     }
 
-    fn write(&self, now: Duration) {
+    // Writes what there is to write: whether more is to be written or read at once.
+    fn write(&self, now: Duration) -> bool {
         let (mut net, mut core) = (self.net.borrow_mut(), self.core.borrow_mut());
+        core.engine.fill(now);
         while let Some(peer) = core.silent.pop() {
             net.drop_link(peer, &mut core.engine, now);
         }
         net.write(&mut core.engine);
+        core.engine.has_more(now) || net.has_more()
     }
 
     // Wakes and drops, with nothing borrowed.
     fn leave(&self, now: Duration) {
-        let mut core = self.core.borrow_mut();
-        let objects = core.take_leftovers();
-        core.drop_withdrawn(now, false);
-        core.export_ahead();
-        drop(core);
+        let leaves = self.core.borrow().has_to_leave();
+        let objects = leaves.then(|| self.core.borrow_mut().leave(now));
         self.rouse(true);
         drop(objects);
     }
@@ -175,9 +187,13 @@ impl Driver {
         if self.shared.has_asleep() {
             self.shared.rouse_asleep();
         }
-        if self.core.borrow().rouses.is_empty() {
-            return;
+        if self.core.borrow().has_rouses() {
+            self.rouse_all(leaves);
         }
+    }
+
+    #[inline(never)]
+    fn rouse_all(&self, leaves: bool) {
         let (mut rouses, mut asleep) = (self.rouses.take(), self.asleep.take());
         std::mem::swap(&mut rouses, &mut self.core.borrow_mut().rouses);
         for rouse in rouses.drain(..) {
@@ -195,15 +211,15 @@ impl Driver {
         self.asleep.replace(asleep);
     }
 
-    /// Waits for something to do, for so long at most: looks for a while, then sleeps.
-    pub(crate) fn rest(&self, limit: Duration) {
+    /// Waits for something to do, for so long at most: looks for a while, then sleeps. It answers the time.
+    fn rest(&self, limit: Duration) -> Duration {
         let looks = self.shared.looks().min(limit);
-        let since = self.now();
+        let mut now = self.now();
         if self.rests.get() == 0 && !looks.is_zero() {
-            let mut now = since;
+            let since = now;
             while now - since < looks {
                 if self.shared.has_commands() || self.look(now) {
-                    return;
+                    return now;
                 }
                 if now - since > LEFT && self.shared.has_asleep() {
                     self.shared.rouse_asleep();
@@ -215,18 +231,19 @@ impl Driver {
         } else {
             self.rests.set(self.rests.get().saturating_sub(1));
         }
-        let now = self.now();
         let wanted = self.core.borrow().engine.next(now);
         let wanted = wanted.into_iter().chain(self.net.borrow().next()).min();
         let left = wanted.map_or(LONGEST_SLEEP, |time| time.saturating_sub(now));
         self.core.borrow_mut().drop_withdrawn(now, true);
         self.shared.rouse_asleep();
         if self.shared.may_sleep() {
-            self.desk.does(Doing::Rests);
+            self.desk.does(Doing::Rests, self.started + now);
             self.net.borrow_mut().sleep(left.min(limit).min(LONGEST_SLEEP));
             self.shared.awake();
-            self.desk.does(Doing::Works);
+            now = self.now();
+            self.desk.does(Doing::Works, self.started + now);
         }
+        now
     }
 
     // Whether anything came over a connection.
@@ -240,20 +257,21 @@ impl Driver {
         end: Option<Instant>,
         mut found: impl FnMut() -> Option<T>,
     ) -> Option<T> {
+        let mut now = self.now();
         loop {
-            let has_more = self.turn();
+            let has_more = self.turn(now);
             if let Some(found) = found() {
                 // Where a method waited for that it goes on, and may take long.
-                self.shared.rouse_asleep();
+                if self.shared.has_asleep() {
+                    self.shared.rouse_asleep();
+                }
                 return Some(found);
             }
             let left = match end {
                 None => LONGEST_SLEEP,
                 Some(end) => end.checked_duration_since(Instant::now())?,
             };
-            if !has_more {
-                self.rest(left);
-            }
+            now = if has_more { self.now() } else { self.rest(left) };
         }
     }
 

@@ -1,6 +1,7 @@
 //! Holds of references, and remote objects.
 
 use super::call::{Call, CallError};
+use super::core::DESCRIBE;
 use super::shared::{Command, Shared};
 use crate::interface::{Description, Interface, Packed};
 use crate::pass::{Parameters, Pass};
@@ -197,7 +198,7 @@ impl<I: ?Sized> Remote<I> {
     pub fn cast<J: Interface + ?Sized>(self) -> Call<Remote<J>> {
         let wanted = Description::of::<J>();
         let shared = self.hold.shared.clone();
-        Call::posted(&shared, |ticket, state| Command::Cast {
+        Call::posted(&shared, (self.owner().agent(), DESCRIBE), |ticket, state| Command::Cast {
             ticket,
             hold: self.hold,
             wanted,
@@ -221,7 +222,8 @@ impl<I: ?Sized> Remote<I> {
         if !self.is_mine() && packed.value.is_too_long() {
             return Call::unmade(&self.hold.shared, CallError::TooLarge);
         }
-        Call::posted(&self.hold.shared, |ticket, state| Command::Call {
+        let aim = (self.hold.reference, method);
+        Call::posted(&self.hold.shared, aim, |ticket, state| Command::Call {
             ticket,
             target,
             method,

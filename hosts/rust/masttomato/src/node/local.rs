@@ -15,7 +15,7 @@ use std::net::SocketAddr;
 use std::pin::pin;
 use std::rc::Rc;
 use std::sync::Arc;
-use std::task::{Context, Poll, Wake, Waker};
+use std::task::{Context, Poll, Waker};
 use std::time::{Duration, Instant};
 
 /// A node without threads: whoever waits for a call turns it, and its objects' methods run there. It is
@@ -46,13 +46,6 @@ impl fmt::Debug for LocalNode {
     fn fmt(&self, f: &mut fmt::Formatter<'_>) -> fmt::Result {
         write!(f, "LocalNode({})", self.id())
     }
-}
-
-// Nobody sleeps while it turns, so nobody is to be woken.
-struct Nobody;
-
-impl Wake for Nobody {
-    fn wake(self: Arc<Nobody>) {}
 }
 
 impl LocalNode {
@@ -348,8 +341,8 @@ impl LocalNode {
     /// ```
     pub fn block_on<F: Future>(&self, future: F) -> F::Output {
         let mut future = pin!(future);
-        let waker = Waker::from(Arc::new(Nobody));
-        let mut context = Context::from_waker(&waker);
+        // Nobody sleeps while it turns, so nobody is to be woken.
+        let mut context = Context::from_waker(Waker::noop());
         let mut poll = || match future.as_mut().poll(&mut context) {
             Poll::Ready(output) => Some(output),
             Poll::Pending => None,

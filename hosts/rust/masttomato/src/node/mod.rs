@@ -467,7 +467,8 @@ fn lookup<I: Interface + ?Sized>(
     name: &str,
 ) -> Call<Remote<I>> {
     let (name, wanted) = (name.as_bytes().to_vec(), Description::of::<I>());
-    Call::posted(shared, |ticket, state| Command::Lookup { ticket, peer, name, wanted, state })
+    let aim = (peer.agent(), core::LOOKUP);
+    Call::posted(shared, aim, |ticket, state| Command::Lookup { ticket, peer, name, wanted, state })
 }
 
 /// What a node is started with.

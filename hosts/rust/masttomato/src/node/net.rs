@@ -129,6 +129,13 @@ struct Dial {
     is_busy: bool,
 }
 
+impl Dial {
+    // Whether it is time to connect.
+    fn is_due(&self, now: Duration) -> bool {
+        !self.is_busy && now >= self.at && !self.addresses.is_empty()
+    }
+}
+
 /// A node's connections.
 pub(crate) struct Net {
     poll: Poll,
@@ -147,8 +154,8 @@ pub(crate) struct Net {
     next_token: usize,
     piece: Vec<u8>,
     jitter: u64,
-    /// When the system was asked what has come, if that isn't long ago.
-    asked: Option<Duration>,
+    /// When the system is to be asked what has come, if it was asked not long ago.
+    asks_at: Option<Duration>,
     /// How often something was found by looking since it was waited for.
     found: u32,
 }
@@ -188,7 +195,7 @@ impl Net {
             next_token: FIRST,
             piece: vec![0; PIECE],
             jitter: hello.life.process | 1,
-            asked: None,
+            asks_at: None,
             found: 0,
         })
     }
@@ -224,7 +231,7 @@ impl Net {
 
     /// Sleeps until something comes, or for so long.
     pub(crate) fn sleep(&mut self, limit: Duration) {
-        (self.asked, self.found) = (None, 0);
+        (self.asks_at, self.found) = (None, 0);
         let mut all_are_watched = true;
         for link in self.links.values_mut() {
             all_are_watched &= link.watch(self.poll.registry());
@@ -234,9 +241,9 @@ impl Net {
 
     // Asks the system what has come, where it wasn't asked for a while.
     fn ask_again(&mut self, now: Duration) {
-        let asked = *self.asked.get_or_insert(now);
-        if now.saturating_sub(asked) >= ASKS {
-            self.asked = Some(now);
+        let at = *self.asks_at.get_or_insert(now + ASKS);
+        if now >= at {
+            self.asks_at = Some(now + ASKS);
             self.ask(Duration::ZERO);
             for link in self.links.values_mut().filter(|link| !link.is_watched) {
                 link.is_readable = true;
@@ -296,6 +303,35 @@ impl Net {
 
     /// Takes what came: whether anything did.
     pub(crate) fn read(&mut self, engine: &mut Engine, now: Duration) -> bool {
+        let mut did = self.is_time_to_welcome(now) && self.welcome(engine, now);
+        if self.links.values().any(|link| link.is_readable) {
+            did |= self.read_all(engine, now);
+        }
+        did
+    }
+
+    // Takes what came over connections, as far as the system has said so.
+    #[inline(never)]
+    fn read_all(&mut self, engine: &mut Engine, now: Duration) -> bool {
+        let (mut did, mut last) = (false, None);
+        while let Some(peer) = self.readable_behind(last) {
+            did |= self.read_from(peer, engine, now);
+            last = Some(peer);
+        }
+        did
+    }
+
+    // Whether there may be anything to do for connections that aren't there yet.
+    fn is_time_to_welcome(&self, now: Duration) -> bool {
+        let has_some = self.accepts || self.door.is_some() || !self.pending.is_empty();
+        has_some
+            || self.asks_at.is_none_or(|at| now >= at)
+            || self.dials.iter().any(|dial| dial.is_due(now))
+    }
+
+    // Accepts, connects, and says and hears hellos: whether anything came.
+    #[inline(never)]
+    fn welcome(&mut self, engine: &mut Engine, now: Duration) -> bool {
         self.ask_again(now);
         let mut did = self.accept(now);
         did |= self.let_in(engine, now);
@@ -304,11 +340,6 @@ impl Net {
         if self.turned_away.0 > 0 {
             let (count, last) = std::mem::take(&mut self.turned_away);
             engine.turned_away(count, last);
-        }
-        let mut last = None;
-        while let Some(peer) = self.readable_behind(last) {
-            did |= self.read_from(peer, engine, now);
-            last = Some(peer);
         }
         did
     }
@@ -454,7 +485,7 @@ impl Net {
     fn dial(&mut self, now: Duration) {
         for place in 0..self.dials.len() {
             let dial = &mut self.dials[place];
-            if dial.is_busy || now < dial.at || dial.addresses.is_empty() {
+            if !dial.is_due(now) {
                 continue;
             }
             dial.is_busy = true;

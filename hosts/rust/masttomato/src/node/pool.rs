@@ -11,6 +11,7 @@ use std::io;
 use std::panic::{AssertUnwindSafe, catch_unwind};
 use std::sync::{Arc, Condvar, Mutex, MutexGuard, PoisonError};
 use std::thread;
+use std::time::Instant;
 
 enum Errand {
     Run(Task),
@@ -108,7 +109,7 @@ impl Pool {
                 return None;
             }
             line.sleep += 1;
-            desk.does(Doing::Rests);
+            desk.does(Doing::Rests, Instant::now());
             line = self.comes.wait(line).unwrap_or_else(PoisonError::into_inner);
             line.sleep -= 1;
         }
@@ -117,9 +118,10 @@ impl Pool {
     fn work(&self, name: String) {
         let desk = self.shared.desks().open(name);
         while let Some(errand) = self.next(&desk) {
+            let now = Instant::now();
             match &errand {
-                Errand::Run(task) => desk.runs(task.running()),
-                Errand::Turn(_) | Errand::Drop(_) => desk.does(Doing::Works),
+                Errand::Run(task) => desk.runs(task.running(), now),
+                Errand::Turn(_) | Errand::Drop(_) => desk.does(Doing::Works, now),
             }
             match errand {
                 Errand::Run(task) => {

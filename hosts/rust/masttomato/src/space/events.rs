@@ -1038,12 +1038,26 @@ impl Space {
     /// # Errors
     /// NoPeer where there is no such peer.
     pub fn transmit(&mut self, peer: SpaceId) -> Result<Frames, SpaceError> {
+        let mut room = std::mem::take(&mut self.room);
+        let given = self.transmit_in(peer, &mut room).map(|length| &room[..length]);
+        let given = given.map(Frames::from_library);
+        self.room = room;
+        given
+    }
+
+    /// The same, but the frames are put there: how long they are together.
+    pub(crate) fn transmit_in(
+        &mut self,
+        peer: SpaceId,
+        room: &mut Vec<u8>,
+    ) -> Result<usize, SpaceError> {
         self.goes_on()?;
         let result = told(self.handle.transmit(peer.get())).map(|told| match told.number {
-            0 => Frames::default(),
-            _ => Frames::from_library(self.answer()),
+            0 => 0,
+            _ => answer_in(&mut self.handle, room),
         });
-        self.noted(result, || Event::Transmit(peer), Answer::Frames)
+        let given = |length: usize| Answer::Frames(Frames::from_library(&room[..length]));
+        self.noted(result, || Event::Transmit(peer), given)
     }
 
     /// A frame came for this space: how many items are there with it, or that it closed the session with
@@ -1666,13 +1680,19 @@ impl Space {
 
     // The bytes of the library's answer.
     fn answer(&mut self) -> &[u8] {
-        let mut length = self.handle.answer(&mut self.room);
-        if length > self.room.len() {
-            self.room.resize(length.next_power_of_two(), 0);
-            length = self.handle.answer(&mut self.room);
-        }
+        let length = answer_in(&mut self.handle, &mut self.room);
         &self.room[..length]
     }
+}
+
+// Puts the bytes of the library's answer there: how many they are.
+fn answer_in(handle: &mut Handle, room: &mut Vec<u8>) -> usize {
+    let mut length = handle.answer(room);
+    if length > room.len() {
+        room.resize(length.next_power_of_two(), 0);
+        length = handle.answer(room);
+    }
+    length
 }
 
 fn done((): ()) -> Answer {
