@@ -191,26 +191,6 @@ impl Agents {
         }
     }
 
-    /// The seats, once the agents have ended.
-    pub(crate) fn into_seats(self, alloc: Global) -> Option<Vec<Seat>> {
-        let Agents {
-            taker,
-            sender,
-            carer,
-            seat,
-            idle_turns: _,
-            carer_idled_rightly: _,
-            sender_idled_rightly: _,
-        } = self;
-        let (taking, _end, _due) = taker.end();
-        let (sending, _ways) = sender.end();
-        let mut seats = Vec::new(alloc);
-        for seat in [taking, sending, carer.end(), seat] {
-            seats.push(seat).ok()?;
-        }
-        Some(seats)
-    }
-
     /// Whether its Carer has withdrawn an object.
     pub(crate) fn has_withdrawn(&self) -> bool {
         self.carer.seat().receipts().iter().any(|receipt| {
