@@ -141,6 +141,10 @@ abbrev pub LacksRoomAtHold : Waiting → Done → Agent → Outcome × Agent →
 LacksRoomAtHold waiting done agent turn =
     (name : List ℕ) × (rep : WireRep) × (waiting ≡ waits.Hold name rep) × (done ≡ dones.Made) × LacksRoom name rep agent turn
 
+-- an agent with other names
+abbrev pub with_names : List (List ℕ × WireRep) → Agent → Agent
+with_names names agent = record agent { names = names }
+
 -- the agent, waiting for nothing
 abbrev pub at_rest : Agent → Agent
 at_rest agent = record agent { waiting = waits.Idle }

@@ -5,13 +5,15 @@
 //! 1 the argument is another, 2 there is no room, 3 there is no such name, 4 the reference can't be
 //! kept.
 
-ghost use Rattle.std.specs.Prelude.{◌≡◌, ◌⊎◌, None, Some, pos, MatchOption};
+ghost use Rattle.std.specs.Prelude.{◌≡◌, ◌⊎◌, [], true, None, Some, Err, pos, MatchOption, IfOk, IfErr, OnOk, OnErr};
 ghost use Rattle.nob_pickle.specs.Shape.{tree, forest};
 ghost use Rattle.nob_pickle.specs.declared.value.Value.TheVariants as values;
 ghost use Rattle.nob_dispatch_objects.specs.Agents as spec;
+ghost use Rattle.nob_dispatch_objects.specs.Names as tables;
+ghost use Rattle.nob_dispatch_objects.specs.declared.names.NamesError.{NamesError as NamesErrorOf};
 ghost use Rattle.nob_dispatch_objects.specs.declared.agent.Waiting.TheVariants as waits;
 
-use crate::names::{Name, NameTable, is_name};
+use crate::names::{Name, NameTable, NamesError, is_name};
 use crate::object::{Done, Object, Outcome};
 use nob_ids::WireRep;
 use nob_pickle::Value;
@@ -76,7 +78,10 @@ pub struct Agent {
 
 impl Agent {
     /// An agent with no names. It takes no memory.
-    pub fn new(alloc: Global) -> Agent {
+    pub fn new(alloc: Global) -> Agent
+        ensures names { result.names ≡ [] }
+        ensures rest { result.waiting ≡ waits.Idle }
+    {
         Agent {
             alloc,
             names: NameTable::new(alloc),
@@ -85,13 +90,35 @@ impl Agent {
     }
 
     /// Its names.
-    pub fn names(&self) -> &NameTable {
+    pub fn names(&self) -> &NameTable
+        ensures { result.now ≡ self.now.names }
+    {
         &self.names
     }
 
-    /// Its names, while no method runs.
-    pub fn names_mut(&mut self) -> &mut NameTable {
-        &mut self.names
+    /// Has a name stand for a reference, while no method runs: the reference that it stood for
+    /// before.
+    pub fn put_name(&mut self, name: Name, rep: WireRep) -> Result<Option<WireRep>, NamesError>
+        ensures before { IfOk result (λ before. before
+            ≡ tables.reference_of name self.old.names) }
+        ensures put { OnOk result (self.new
+            ≡ spec.with_names (tables.with_name name rep self.old.names) self.old) }
+        ensures full { IfErr result (λ error. error ≡ NamesError.Full
+            → tables.is_full_for name self.old.names ≡ true) }
+        ensures only { tables.is_full_for name self.old.names ≡ true
+            → result ≡ Err NamesErrorOf.Full }
+        ensures err { OnErr result (self.new ≡ self.old) }
+    {
+        self.names.put(name, rep)
+    }
+
+    /// Removes a name, while no method runs: the reference that it stood for.
+    pub fn remove_name(&mut self, name: &[u8]) -> Option<WireRep>
+        ensures before { result ≡ tables.reference_of name.now self.old.names }
+        ensures removed { self.new
+            ≡ spec.with_names (tables.without_name name.now self.old.names) self.old }
+    {
+        self.names.remove(name)
     }
 
     // Begins to have a name stand for a reference.
@@ -166,9 +193,11 @@ impl Agent {
 }
 
 impl Object for Agent {
-    fn invoke(&mut self, method: u16, args: &Value) -> Outcome
-        ensures { spec.IsBegun method args.now self.old result self.new }
-    {
+    ghost begins = { λ old method args outcome new. spec.IsBegun method args old outcome new };
+
+    ghost resumes = { λ old done outcome new. spec.IsResumed done old outcome new };
+
+    fn invoke(&mut self, method: u16, args: &Value) -> Outcome {
         match method {
             0 => self.put(args),
             1 => self.get(args),
@@ -177,9 +206,7 @@ impl Object for Agent {
         }
     }
 
-    fn resume(&mut self, done: &Done) -> Outcome
-        ensures { spec.IsResumed done.now self.old result self.new }
-    {
+    fn resume(&mut self, done: &Done) -> Outcome {
         let waiting = std::mem::replace(&mut self.waiting, Waiting::Idle);
         match waiting {
             Waiting::Hold { name, rep } => match done {

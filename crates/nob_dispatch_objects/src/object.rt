@@ -1,5 +1,10 @@
 //! Objects that run: what a method is asked, and what it asks for while it runs.
 
+ghost use Rattle.std.specs.Prelude.{ℕ};
+ghost use Rattle.nob_dispatch_objects.specs.declared.object.Done.{Done as DoneOf};
+ghost use Rattle.nob_dispatch_objects.specs.declared.object.Outcome.{Outcome as OutcomeOf};
+ghost use Rattle.nob_pickle.specs.declared.value.Value.{Value as ValueOf};
+
 use nob_ids::WireRep;
 use nob_model_types::Refusal;
 use nob_pickle::Value;
@@ -47,12 +52,23 @@ pub enum Done {
     Refused(Refusal),
 }
 
-/// An object that others call. It runs one call at a time.
+/// An object that others call. It runs one call at a time. What its methods come to is its own: who
+/// runs an object of any type knows no more of it than these two say, and so has run just that at
+/// it of which it says what it came to.
 pub trait Object: Drop {
+    /// What it may come to where a method begins: the object before, the number of the method, the
+    /// argument, what it comes to, and the object then.
+    ghost begins: { Self → ℕ → ValueOf → OutcomeOf → Self → Type 0 } = { λ _ _ _ _ _. Unit {0} };
+
+    /// What it may come to where it is told what came of that which its method asked for.
+    ghost resumes: { Self → DoneOf → OutcomeOf → Self → Type 0 } = { λ _ _ _ _. Unit {0} };
+
     /// Begins a call of a method. The references in the argument are held until it ends: one that is
     /// to be kept longer wants a `Dup`.
-    fn invoke(&mut self, method: u16, args: &Value) -> Outcome;
+    fn invoke(&mut self, method: u16, args: &Value) -> Outcome
+        ensures { begins self.old method args.now result self.new };
 
     /// Goes on with the method that asked for something, once that is done.
-    fn resume(&mut self, done: &Done) -> Outcome;
+    fn resume(&mut self, done: &Done) -> Outcome
+        ensures { resumes self.old done.now result self.new };
 }
