@@ -1,6 +1,9 @@
 -- A worker with the ends of its two lanes. Errands and objects stand oldest first where nothing else is said; receipts stand the newest FIRST.
 use Rattle.std.specs.Prelude.{◌≡◌, ◌⊎◌, ℕ, Bool, true, false, List, ◌++◌, ◌∷◌, [], map, reverse, Option, Some, None, IfSome, Result, Ok, Err, if◌then◌else◌}
 use Rattle.nob_model_types.specs.declared.answer.Job.{Job}
+use Rattle.nob_pickle.specs.declared.value.Value.{Value}
+use Rattle.nob_dispatch_objects.specs.declared.object.Done.{Done}
+use Rattle.nob_dispatch_objects.specs.declared.object.Outcome.{Outcome}
 use Rattle.nob_dispatch_lanes.specs.declared.ends.LanePut.{LanePut}
 use Rattle.nob_dispatch_lanes.specs.declared.ends.LaneTake.{LaneTake}
 use Rattle.nob_dispatch_lanes.specs.Ends.{given_by, got_by}
@@ -9,7 +12,7 @@ use Rattle.nob_dispatch.specs.declared.errand.Errand.{Errand}
 use Rattle.nob_dispatch.specs.declared.errand.Return.{Return}
 use Rattle.nob_dispatch.specs.Ends.{ended, with_job}
 use Rattle.nob_dispatch.specs.Steps.{object_in}
-use Rattle.nob_dispatch.specs.Working.{Working, with_errand}
+use Rattle.nob_dispatch.specs.Working.{Working, with_errand, without_object, freed, GoesOn}
 use Rattle.nob_dispatch.specs.Stakes.{Stakes}
 use Rattle.nob_dispatch.specs.Faults.{is_memory}
 use Rattle.nob_dispatch.specs.declared.hand.Deed.{Deed}
@@ -102,6 +105,23 @@ module _ {O : Type 0} where
   -- a turn of a hand gives back the object that its worker has, as it is, or nothing
   abbrev pub GivesBack : (old new : Serving O) → Type 0
   GivesBack old new = GivesAtMost (object_in old.worker.course) old.given new.given
+
+  -- a worker is as it was where memory was wanted, and keeps no job any more after any other error of the keeper
+  abbrev pub IsLeftBy : (wants : Bool) → (old new : Working O) → Type 0
+  IsLeftBy true old new = new ≡ old
+  IsLeftBy false old new = new ≡ freed old
+
+  -- what a turn of a hand runs, by what it came to: its object comes back, or its worker goes on by one step; a hand that gives up keeps no job any more
+  abbrev pub RunsBy : (begins : O → ℕ → Value → Outcome → O → Type 0) → (resumes : O → Done → Outcome → O → Type 0) → Result Deed KeeperError → (old new : Serving O) → Type 0
+  RunsBy begins resumes result old new = by old.fault result
+    where
+      by : Option KeeperError → Result Deed KeeperError → Type 0
+      by (Some error) turned = new.worker ≡ freed old.worker
+      by None (Ok deeds.Did) = (new.worker ≡ without_object old.worker) ⊎ GoesOn begins resumes old.worker new.worker
+      by None (Ok deeds.Ended) = (old.worker.course ≡ None) × GoesOn begins resumes old.worker new.worker
+      by None (Ok deeds.Later) = GoesOn begins resumes old.worker new.worker
+      by None (Ok deeds.Idle) = new.worker ≡ old.worker
+      by None (Err error) = IsLeftBy (is_memory error) old.worker new.worker
 
   -- a hand whose job has ended keeps none, and so does one that has nothing to do, or has just begun to give up
   abbrev pub IsFreeAfter : Result Deed KeeperError → Serving O → Type 0

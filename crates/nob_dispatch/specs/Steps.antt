@@ -1,5 +1,5 @@
 -- A step of a method that runs at an object. In lists of receipts the newest stands FIRST.
-use Rattle.std.specs.Prelude.{◌≡◌, ℕ, List, [], ◌∷◌, Option, Some, None, Result, Ok, Err, if◌then◌else◌}
+use Rattle.std.specs.Prelude.{◌≡◌, ℕ, Bool, true, false, List, [], ◌∷◌, Option, Some, None, Result, Ok, Err, if◌then◌else◌}
 use Rattle.nob_pickle.specs.declared.value.Value.{Value}
 use Rattle.nob_pickle.specs.declared.value.Value.TheVariants as values
 use Rattle.nob_model_types.specs.declared.answer.Answer.{Answer}
@@ -31,6 +31,11 @@ Comes outcomes.NoMethod stage = stage ≡ stages.End endings.NoMethod
 Comes (outcomes.Call target method value) stage = Asks (events.Call target method value) stage
 Comes (outcomes.Dup rep) stage = Asks (events.Dup rep) stage
 Comes (outcomes.Release rep) stage = Asks (events.Release rep) stage
+
+-- whether a method has ended
+abbrev pub is_end : Stage → Bool
+is_end (stages.End ending) = true
+is_end _ = false
 
 -- the event that ends a job whose method has ended, as it ended
 abbrev pub closing_at : (job : ℕ) → Stage → Option Event
@@ -68,6 +73,11 @@ module _ {O : Type 0} where
   object_in None = None
   object_in (Some course) = Some course.errand.object
 
+  -- whether a method has ended whose object the worker still has
+  abbrev pub has_returned : Option (Course O) → Bool
+  has_returned None = false
+  has_returned (Some course) = is_end course.stage
+
   -- the event that ends the job of an object that comes back
   abbrev pub closing_of : Option (Course O) → Option Event
   closing_of None = None
@@ -81,13 +91,13 @@ module _ {O : Type 0} where
   abbrev pub IsTold : (resumes : O → Done → Outcome → O → Type 0) → List Receipt → Errand O → Stage → Errand O → Type 0
   IsTold resumes receipts old next new = (new.job ≡ old.job) × ((outcome : Outcome) × resumes old.object (told receipts) outcome new.object × Comes outcome next)
 
-  -- a method goes on by one step: it is begun, or what it asked for is asked, or the reply to its call, or it is told what came of that
+  -- a method goes on by one step: it is begun, or what it asked for is asked, or the reply to its call, or it is told what came of that; one that has ended has no step more
   abbrev pub Goes : (begins : O → ℕ → Value → Outcome → O → Type 0) → (resumes : O → Done → Outcome → O → Type 0) → (before after : List Receipt) → Stage → Errand O → Stage → Errand O → Type 0
   Goes begins resumes before after stages.Begin old next new = (after ≡ before) × IsBegun begins old next new
   Goes begins resumes before after (stages.Ask request) old next new = Adds before after request.event 0 × (new ≡ old) × (next ≡ stage_after after)
   Goes begins resumes before after (stages.Await call) old next new = Adds before after (events.TakeReply call) 0 × (new ≡ old) × (next ≡ (if is_not_ready after then stages.Await call else stages.Tell))
   Goes begins resumes before after stages.Tell old next new = (after ≡ before) × IsTold resumes before old next new
-  Goes begins resumes before after (stages.End ending) old next new = (after ≡ before) × (new ≡ old) × (next ≡ stages.End ending)
+  Goes begins resumes before after (stages.End ending) old next new = ⊥
 
   -- the same of the object that a worker has, if it has one
   abbrev pub GoesAt : (begins : O → ℕ → Value → Outcome → O → Type 0) → (resumes : O → Done → Outcome → O → Type 0) → (before after : List Receipt) → (old new : Option (Course O)) → Type 0

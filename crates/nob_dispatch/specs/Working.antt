@@ -82,6 +82,11 @@ module _ {O : Type 0} where
   IsFreeAfter (Ok progresses.Idle) worker = worker.job ≡ None
   IsFreeAfter _ worker = Unit {0}
 
+  -- a turn that says of a job that it has ended says so of the one that the worker kept
+  abbrev pub EndsItsJob : Result (Progress O) KeeperError → Working O → Type 0
+  EndsItsJob (Ok (progresses.Ended job)) old = old.job ≡ Some job
+  EndsItsJob _ old = Unit {0}
+
   -- a worker whose object has come back
   abbrev pub without_object : Working O → Working O
   without_object worker = record { receipts = worker.receipts; job = worker.job; running = None; course = None; closing = closing_of worker.course }
@@ -102,10 +107,6 @@ module _ {O : Type 0} where
   Runs begins resumes progresses.Idle old new = new ≡ old
   Runs begins resumes progresses.Did old new = GoesOn begins resumes old new
   Runs begins resumes progresses.Later old new = GoesOn begins resumes old new
-
-  -- what turns run at it at most, whatever comes of them: a step of its method, or nothing, or the worker has it no more
-  abbrev pub RunsAtMost : (begins : O → ℕ → Value → Outcome → O → Type 0) → (resumes : O → Done → Outcome → O → Type 0) → (old new : Working O) → Type 0
-  RunsAtMost begins resumes old new = (new.course ≡ None) ⊎ ((new ≡ old) ⊎ GoesAt begins resumes old.receipts new.receipts old.course new.course)
 
   -- whether a worker keeps no job
   abbrev pub is_free : Working O → Bool

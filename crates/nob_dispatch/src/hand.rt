@@ -11,7 +11,6 @@ ghost use Rattle.nob_dispatch.specs.Working as working;
 use crate::calls::JobCalls;
 use crate::errand::{Errand, Return};
 use crate::gate::Gate;
-use crate::runs::Runs;
 use crate::worker::{Progress, Worker};
 use nob_dispatch_lanes::{LanePut, LaneTake};
 use nob_dispatch_objects::Object;
@@ -146,11 +145,9 @@ impl<O: Object> Hand<O> {
         keeper: &C,
         gate: &G,
     ) -> Result<Deed, KeeperError>
-    where
-        O: Runs,
         ensures taken { self.new.taken ≡ self.old.taken }
         ensures given { serving.GivesBack self.old self.new }
-        ensures runs { working.RunsAtMost O.begins O.resumes self.old.worker self.new.worker }
+        ensures runs { serving.RunsBy O.begins O.resumes result self.old self.new }
         ensures fault { self.new.fault ≡ serving.fault_after result self.old.fault }
         ensures error { IfErr result (λ error. faults.IsAnswered (C.answered keeper.now) error) }
         ensures free { serving.IsFreeAfter result self.new }

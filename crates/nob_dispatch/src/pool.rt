@@ -6,7 +6,7 @@ ghost use Rattle.nob_dispatch.specs.Faults as faults;
 use crate::calls::JobCalls;
 use crate::gate::Gate;
 use crate::hand::{Deed, Hand, is_memory};
-use crate::runs::Runs;
+use nob_dispatch_objects::Object;
 use std::sync::Wait;
 use std::sync::atomic::AtomicU64;
 use std::thread;
@@ -22,7 +22,7 @@ const MAX_REST: u64 = 1000;
 /// Gets errands and carries them out, until none comes any more. K2 is tried again; after any other
 /// error of the keeper each errand that the hand has or still gets is given up: its object goes
 /// back, and its job isn't ended.
-pub fn serve<O: Runs, R: Wait, C: JobCalls, G: Gate>(
+pub fn serve<O: Object, R: Wait, C: JobCalls, G: Gate>(
     rt: &R,
     keeper: &C,
     gate: &G,
@@ -42,7 +42,7 @@ pub fn serve<O: Runs, R: Wait, C: JobCalls, G: Gate>(
 
 /// Carries out the job that a hand keeps, to its end. What can't be done yet is tried again after a
 /// rest, K2 at once; after any other error of the keeper the hand gives the job up.
-pub fn carry_out<O: Runs, R: Wait, C: JobCalls, G: Gate>(
+pub fn carry_out<O: Object, R: Wait, C: JobCalls, G: Gate>(
     rt: &R,
     keeper: &C,
     gate: &G,

@@ -10,7 +10,6 @@ ghost use Rattle.nob_dispatch.specs.KeeperError.TheVariants as errors;
 use crate::calls::JobCalls;
 use crate::errand::{Errand, Return};
 use crate::gate::Gate;
-use crate::runs::Runs;
 use crate::stage::{AfterFinish, Finish, Keeping, Stage};
 use crate::telling::{done_of, is_not_ready, stage_after};
 use nob_dispatch_objects::Object;
@@ -117,11 +116,10 @@ impl<O: Object> Worker<O> {
         keeper: &C,
         gate: &G,
     ) -> Result<Progress<O>, KeeperError>
-    where
-        O: Runs,
         ensures got { working.got self.new ≡ working.got self.old }
         ensures objects { working.GivesBack result self.old self.new }
         ensures free { working.IsFreeAfter result self.new }
+        ensures ended { working.EndsItsJob result self.old }
         ensures runs { IfOk result (λ progress.
             working.Runs O.begins O.resumes progress self.old self.new) }
         ensures error { IfErr result (λ error. faults.IsAnswered (C.answered keeper.now) error) }
@@ -137,7 +135,9 @@ impl<O: Object> Worker<O> {
     }
 
     // Whether the method has ended, and its object hasn't come back.
-    fn has_returned(&self) -> bool {
+    fn has_returned(&self) -> bool
+        ensures { result ≡ steps.has_returned self.now.course }
+    {
         match &self.keeping {
             Keeping::Running(_, Stage::End(_)) => true,
             _ => false,
@@ -149,6 +149,7 @@ impl<O: Object> Worker<O> {
         ensures back { IfSome result (λ back. working.ComesFrom back self.old) }
         ensures given { MatchOption result (self.new ≡ self.old)
             (λ _. self.new ≡ working.without_object self.old) }
+        ensures none { result ≡ None → steps.has_returned self.old.course ≡ false }
     {
         if !self.has_returned() {
             return None;
@@ -184,11 +185,11 @@ impl<O: Object> Worker<O> {
         keeper: &C,
         gate: &G,
     ) -> Result<Progress<O>, KeeperError>
-    where
-        O: Runs,
+        requires { steps.has_returned self.old.course ≡ false }
         ensures got { working.got self.new ≡ working.got self.old }
         ensures objects { working.GivesBack result self.old self.new }
         ensures free { working.IsFreeAfter result self.new }
+        ensures ended { working.EndsItsJob result self.old }
         ensures runs { IfOk result (λ progress.
             working.Runs O.begins O.resumes progress self.old self.new) }
         ensures error { IfErr result (λ error. faults.IsAnswered (C.answered keeper.now) error) }
@@ -210,12 +211,11 @@ impl<O: Object> Worker<O> {
         keeper: &C,
         gate: &G,
     ) -> Result<Progress<O>, KeeperError>
-    where
-        O: Runs,
         requires { self.old.running ≡ None }
         ensures got { working.got self.new ≡ working.got self.old }
         ensures objects { working.GivesBack result self.old self.new }
         ensures free { working.IsFreeAfter result self.new }
+        ensures ended { working.EndsItsJob result self.old }
         ensures runs { IfOk result (λ progress.
             working.Runs O.begins O.resumes progress self.old self.new) }
         ensures error { IfErr result (λ error. faults.IsAnswered (C.answered keeper.now) error) }
@@ -277,7 +277,7 @@ impl<O: Object> Worker<O> {
 }
 
 // The next step of a method that runs. False where it is to be tried again later.
-fn advance<O: Runs, R: Wait, C: JobCalls, G: Gate>(
+fn advance<O: Object, R: Wait, C: JobCalls, G: Gate>(
     rt: &R,
     keeper: &C,
     gate: &G,
@@ -285,6 +285,7 @@ fn advance<O: Runs, R: Wait, C: JobCalls, G: Gate>(
     errand: &mut Errand<O>,
     stage: &mut Stage,
 ) -> Result<bool, KeeperError>
+    requires { steps.is_end stage.old ≡ false }
     ensures ended { ended seat.new ≡ ended seat.old }
     ensures job { errand.new.job ≡ errand.old.job }
     ensures goes { IfOk result (λ _. steps.Goes O.begins O.resumes seat.old seat.new
@@ -316,26 +317,26 @@ fn advance<O: Runs, R: Wait, C: JobCalls, G: Gate>(
             *stage = tell(seat, errand)?;
             Ok(true)
         }
-        Stage::End(_) => Ok(true),
+        Stage::End(_) => unreachable!(),
     }
 }
 
 // The method of a job begins at its object: what is next for it.
-fn begin<O: Runs>(errand: &mut Errand<O>) -> Stage
+fn begin<O: Object>(errand: &mut Errand<O>) -> Stage
     ensures { steps.IsBegun O.begins errand.old result errand.new }
 {
-    let outcome = errand.object.begin(errand.job.method, &errand.job.value);
+    let outcome = errand.object.invoke(errand.job.method, &errand.job.value);
     Stage::of(outcome)
 }
 
 // A method is told what the newest receipt says: what is next for it. Only memory fails it.
-fn tell<O: Runs>(seat: &Seat, errand: &mut Errand<O>) -> Result<Stage, KeeperError>
+fn tell<O: Object>(seat: &Seat, errand: &mut Errand<O>) -> Result<Stage, KeeperError>
     ensures told { IfOk result (λ stage.
         steps.IsTold O.resumes seat.now errand.old stage errand.new) }
     ensures memory { IfErr result (λ error. error ≡ errors.OutOfMemory) }
     ensures err { OnErr result (errand.new ≡ errand.old) }
 {
     let done = done_of(seat)?;
-    let outcome = errand.object.go_on(&done);
+    let outcome = errand.object.resume(&done);
     Ok(Stage::of(outcome))
 }
