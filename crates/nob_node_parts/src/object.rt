@@ -1,7 +1,7 @@
 //! The objects of a node.
 
-ghost use Rattle.std.specs.Prelude.{◌≡◌};
-ghost use Rattle.nob_node_parts.specs.Objects.{own_in};
+ghost use Rattle.std.specs.Prelude.{◌≡◌, true, None, IfSome, MatchOption};
+ghost use Rattle.nob_node_parts.specs.Objects as objects;
 
 use nob_dispatch_objects::{Agent, Done, Name, Object, Outcome};
 use nob_ids::WireRep;
@@ -17,6 +17,10 @@ pub enum Kept<B: Object> {
 }
 
 impl<B: Object> Object for Kept<B> {
+    ghost begins = { objects.Begins B.begins };
+
+    ghost resumes = { objects.Resumes B.resumes };
+
     fn invoke(&mut self, method: u16, args: &Value) -> Outcome {
         match self {
             Kept::Own(object) => object.invoke(method, args),
@@ -35,7 +39,7 @@ impl<B: Object> Object for Kept<B> {
 impl<B: Object> Kept<B> {
     /// The application's object: `None` for the agent.
     pub fn into_own(self) -> Option<B>
-        ensures { result ≡ own_in self }
+        ensures { result ≡ objects.own_in self }
     {
         match self {
             Kept::Own(object) => Some(object),
@@ -44,7 +48,9 @@ impl<B: Object> Kept<B> {
     }
 
     /// Whether it has no room for a name.
-    pub fn is_full_for(&self, name: &Name) -> bool {
+    pub fn is_full_for(&self, name: &Name) -> bool
+        ensures { result ≡ objects.is_full_for name.now self.now }
+    {
         match self {
             Kept::Own(_) => true,
             Kept::Agent(agent) => agent.names().is_full_for(name.as_bytes()),
@@ -52,19 +58,28 @@ impl<B: Object> Kept<B> {
     }
 
     /// Takes a name out: the reference that it stood for.
-    pub fn remove(&mut self, name: &[u8]) -> Option<WireRep> {
+    pub fn remove(&mut self, name: &[u8]) -> Option<WireRep>
+        ensures before { result ≡ objects.reference_of name.now self.old }
+        ensures removed { self.new ≡ objects.without_name name.now self.old }
+    {
         match self {
             Kept::Own(_) => None,
-            Kept::Agent(agent) => agent.names_mut().remove(name),
+            Kept::Agent(agent) => agent.remove_name(name),
         }
     }
 
     /// Has a name stand for a reference: the reference that it stood for before. `None` where there is
-    /// no room.
-    pub fn put(&mut self, name: Name, rep: WireRep) -> Option<Option<WireRep>> {
+    /// no room, or no memory.
+    pub fn put(&mut self, name: Name, rep: WireRep) -> Option<Option<WireRep>>
+        ensures put { MatchOption result (self.new ≡ self.old)
+            (λ _. self.new ≡ objects.with_name name rep self.old) }
+        ensures before { IfSome result (λ before.
+            before ≡ objects.reference_of name self.old) }
+        ensures full { objects.is_full_for name self.old ≡ true → result ≡ None }
+    {
         match self {
             Kept::Own(_) => None,
-            Kept::Agent(agent) => agent.names_mut().put(name, rep).ok(),
+            Kept::Agent(agent) => agent.put_name(name, rep).ok(),
         }
     }
 }
