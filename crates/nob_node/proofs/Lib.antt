@@ -1,4 +1,5 @@
 pub mod Crossing
+mod Asked
 mod Hands
 mod Holdings
 mod Shelved

@@ -8,6 +8,7 @@ ghost use Rattle.nob_node.specs.declared.hold.Hold.{Hold as HoldOf};
 ghost use Rattle.nob_node.specs.declared.hold.Returned.TheVariants as returns;
 
 use nob_ids::WireRep;
+use nob_node_site::Placed;
 use nob_pickle::{Value, counted_ref};
 use std::alloc::{AllocError, Global};
 
@@ -15,6 +16,8 @@ use std::alloc::{AllocError, Global};
 /// the node has ended.
 pub struct Hold {
     pub(crate) rep: WireRep,
+    // That the object of a reference that was exported was put at its index.
+    pub(crate) placed: Option<Placed>,
 }
 
 impl Hold {
@@ -27,7 +30,7 @@ impl Hold {
 
     /// Lets go of a hold whose node has ended, and with it all that it held.
     pub fn forget(self) {
-        let Hold { rep: _ } = self;
+        let Hold { rep: _, placed: _ } = self;
     }
 }
 
@@ -116,7 +119,7 @@ fn holds_in(alloc: Global, value: &Value) -> Result<Vec<Hold>, AllocError>
 {
     let mut holds = Vec::new(alloc);
     while let Some(rep) = counted_ref(value, holds.len()) {
-        if let Err(failed) = holds.push(Hold { rep }) {
+        if let Err(failed) = holds.push(Hold { rep, placed: None }) {
             failed.value.forget();
             forget_all(holds);
             return Err(AllocError);

@@ -1,6 +1,6 @@
 //! A node, as its application sees it.
 
-ghost use Rattle.std.specs.Prelude.{◌≡◌, ◌≢◌, ◌++◌, List, [], Some, None, Ok, Err, reverse, IfOk, IfErr, IfSome, OnOk, OnErr};
+ghost use Rattle.std.specs.Prelude.{◌≡◌, ◌≢◌, ◌++◌, List, [], Some, None, Ok, Err, reverse, IfOk, IfErr, IfSome, OnOk, OnErr, MatchResult};
 ghost use Rattle.nob_model_types.specs.declared.event.Event.TheVariants as events;
 ghost use Rattle.nob_model_types.specs.declared.answer.Answer.TheVariants as answers;
 ghost use Rattle.nob_pickle.specs.declared.value.Value.TheVariants as values;
@@ -8,6 +8,8 @@ ghost use Rattle.nob_keeper.specs.Receipt.{Receipt as ReceiptOf};
 ghost use Rattle.nob_keeper.specs.Kinds as kinds;
 ghost use Rattle.nob_keeper.specs.Summaries as summaries;
 ghost use Rattle.nob_node.specs.Calls as calls;
+ghost use Rattle.nob_node.specs.Holds.{IsPlaced};
+ghost use Rattle.nob_node_site.specs.Objects as objects;
 
 use crate::error::NodeError;
 use crate::hold::{Hold, Returned, handed_on};
@@ -89,12 +91,14 @@ impl<'x, B: Object> Node<'x, B> {
     }
 
     // One event of the space, once there is memory for its entry: want of memory is waited out.
+    #[tactic(auto, using(crate::proofs::Asked::answered_once, crate::proofs::Asked::refused_once))]
     fn ask_surely<R: Wait, A: AnswerKind>(&mut self, rt: &R, event: &Event) -> Result<A, NodeError>
         requires kind { kinds.IsAnsweredBy A.is_one event.now }
         ensures answered { IfOk result (λ answer.
             calls.Answered self.old self.new event.now (Ok (A.as_answer answer))) }
         ensures refused { IfErr result (λ error. calls.IsRefusal self.old self.new event.now error) }
         ensures only { IfErr result (λ error. error ≢ calls.want) }
+        ensures asked { calls.IsAskedAtMost self.old self.new event.now }
     {
         for _ in rt.forever() {
             match self.ask(rt, event) {
@@ -111,8 +115,9 @@ impl<'x, B: Object> Node<'x, B> {
     pub fn export<R: Wait>(&mut self, rt: &R, object: B) -> Result<Hold, (NodeError, B)>
         ensures made { IfOk result (λ hold. calls.Answered self.old self.new events.Export
             (Ok (answers.Exported hold.rep))) }
+        ensures placed { IfOk result IsPlaced }
         ensures refused { IfErr result (λ back.
-            calls.IsRefusal self.old self.new events.Export back.0) }
+            calls.IsExportRefusal self.old self.new back.0) }
         ensures back { IfErr result (λ back. back.1 ≡ object) }
     {
         let rep = match self.ask(rt, &Event::Export) {
@@ -120,7 +125,10 @@ impl<'x, B: Object> Node<'x, B> {
             Err(error) => return Err((error, object)),
         };
         match self.site.jobs.add(rt, self.alloc, rep.index, object) {
-            Ok(_placed) => Ok(Hold { rep }),
+            Ok(placed) => Ok(Hold {
+                rep,
+                placed: Some(placed),
+            }),
             Err(object) => {
                 self.take_back(rt, rep);
                 Err((NodeError::Keeper(KeeperError::OutOfMemory), object))
@@ -130,7 +138,9 @@ impl<'x, B: Object> Node<'x, B> {
 
     // Gives up an object that there was no room for. Want of memory is waited out: else it would stay
     // live for good.
-    fn take_back<R: Wait>(&mut self, rt: &R, rep: WireRep) {
+    fn take_back<R: Wait>(&mut self, rt: &R, rep: WireRep)
+        ensures { calls.IsGivenUp self.old self.new rep }
+    {
         let index = rep.index;
         let _ = self.ask_surely::<R, DoneAnswer>(rt, &Event::Release(rep));
         let _ = self.ask_surely::<R, WithdrawAnswer>(rt, &Event::Withdraw(index));
@@ -144,7 +154,10 @@ impl<'x, B: Object> Node<'x, B> {
             calls.IsRefusal self.old self.new (events.Dup hold.now.rep) error) }
     {
         let DoneAnswer = self.ask(rt, &Event::Dup(hold.rep))?;
-        Ok(Hold { rep: hold.rep })
+        Ok(Hold {
+            rep: hold.rep,
+            placed: None,
+        })
     }
 
     /// Gives a hold back. It comes back where that fails.
@@ -168,7 +181,7 @@ impl<'x, B: Object> Node<'x, B> {
     /// of that peer, and a name of this node's agent that stands for one, hinder that the session is
     /// opened anew.
     pub fn close<R: Wait>(&mut self, rt: &R, peer: SpaceId) -> Result<(), NodeError>
-        ensures asked { OnOk result (calls.IsAsked self.old self.new (events.Close peer)) }
+        ensures closed { OnOk result (calls.IsClosed self.old self.new peer) }
         ensures refused { IfErr result (λ error.
             calls.IsRefusal self.old self.new (events.Close peer) error) }
     {
@@ -295,6 +308,7 @@ impl<'x, B: Object> Node<'x, B> {
     /// is waited out. It waits while the agent runs. J2: S7 where these bytes are no name (1 to 255
     /// bytes), S13 where there are 1,024 names and it is none of them, and as `dup`.
     pub fn bind<R: Wait>(&mut self, rt: &R, name: &[u8], hold: &Hold) -> Result<(), NodeError>
+        ensures bound { OnOk result (calls.IsBound self.old self.new hold.now.rep) }
         ensures want { IfErr result (λ error.
             calls.KeepsHoldsOnWant self.old self.new hold.now.rep error) }
     {
@@ -318,6 +332,7 @@ impl<'x, B: Object> Node<'x, B> {
     /// there is such a name. It waits while the agent runs, and where memory is wanted: else that
     /// hold would be lost. J1, but not for want of memory.
     pub fn unbind<R: Wait>(&mut self, rt: &R, name: &[u8]) -> Result<(), NodeError>
+        ensures unbound { OnOk result (calls.IsUnbound self.old self.new) }
         ensures only { IfErr result (λ error. error ≢ calls.want) }
     {
         let Some(mut agent) = self.site.borrow_agent(rt) else {
@@ -341,7 +356,8 @@ impl<'x, B: Object> Node<'x, B> {
     // Gives back a hold that the agent had on a reference. Want of memory is waited out: else that
     // hold would be lost.
     fn give_back<R: Wait>(&mut self, rt: &R, rep: WireRep) -> Result<(), NodeError>
-        ensures given { OnOk result (calls.IsAsked self.old self.new (events.Release rep)) }
+        ensures given { OnOk result
+            (calls.Answered self.old self.new (events.Release rep) (Ok answers.Done)) }
         ensures only { IfErr result (λ error. error ≢ calls.want) }
     {
         let DoneAnswer = self.ask_surely(rt, &Event::Release(rep))?;
@@ -357,6 +373,12 @@ impl<'x, B: Object> Node<'x, B> {
         name: Name,
         hold: &Hold,
     ) -> Result<Option<WireRep>, NodeError>
+        ensures held { OnOk result (calls.Answered self.old self.new (events.Dup hold.now.rep)
+            (Ok answers.Done)) }
+        ensures before { IfOk result (λ before. before ≡ objects.reference_of name agent.old) }
+        ensures agent { MatchResult result
+            (λ _. agent.new ≡ objects.with_name name hold.now.rep agent.old)
+            (λ _. agent.new ≡ agent.old) }
         ensures want { IfErr result (λ error.
             calls.KeepsHoldsOnWant self.old self.new hold.now.rep error) }
     {

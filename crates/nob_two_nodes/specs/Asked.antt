@@ -14,14 +14,6 @@ use Rattle.nob_nodes.specs.Hold.{Hold}
 use Rattle.nob_nodes.specs.Returned.{Returned}
 use Rattle.nob_nodes.specs.Returned.TheVariants as returns
 
--- the newest receipt is of this event, answered so
-abbrev pub IsLast : List Receipt → Event → Result Answer Refusal → Type 0
-IsLast new event result = (earlier : List Receipt) × calls.Answered earlier new event result
-
--- where a node says that the space refuses an event, the newest receipt is of that refusal
-abbrev pub IsLastRefusal : List Receipt → Event → NodeError → Type 0
-IsLastRefusal new event error = (earlier : List Receipt) × calls.IsRefusal earlier new event error
-
 -- what was returned is an answer with this value, and no hold
 abbrev pub IsValue : Returned → Value → Type 0
 IsValue (returns.Replied status given holds) value = (status ≡ 0) × (given ≡ value) × (holds.items ≡ [])

@@ -1,8 +1,9 @@
 //! What players do with holds.
 
-ghost use Rattle.std.specs.Prelude.{◌≡◌, Ok, IfSome, IfOk, IfErr, OnOk};
+ghost use Rattle.std.specs.Prelude.{◌≢◌, Ok, IfSome, IfOk, IfErr, OnOk};
 ghost use Rattle.nob_model_types.specs.declared.event.Event.TheVariants as events;
 ghost use Rattle.nob_model_types.specs.declared.answer.Answer.TheVariants as answers;
+ghost use Rattle.nob_nodes.specs.Calls as calls;
 ghost use Rattle.nob_two_nodes.specs.Asked as asked;
 
 use nob_dispatch_objects::Object;
@@ -141,9 +142,11 @@ pub fn give_back<O: Object, R: Wait>(
     node: &mut Node<O>,
     hold: Hold,
 ) -> Result<(), NodeError>
-    ensures made { OnOk result (asked.IsLast node.new (events.Release hold.rep) (Ok answers.Done)) }
+    ensures made { OnOk result
+        (calls.Answered node.old node.new (events.Release hold.rep) (Ok answers.Done)) }
     ensures refused { IfErr result (λ error.
-        asked.IsLastRefusal node.new (events.Release hold.rep) error) }
+        calls.IsRefusal node.old node.new (events.Release hold.rep) error) }
+    ensures only { IfErr result (λ error. error ≢ calls.want) }
 {
     let mut held = hold;
     for _ in rt.forever() {
