@@ -47,9 +47,6 @@ request_send = struct_send (shape Request.the_type) (event_send, tt)
 finish_field_send : IsSend (Finish.the_field).row
 finish_field_send = struct_send (shape Finish.the_type) (search sendable, (event_send, tt))
 
-finish_send : IsSend Finish.the_row
-finish_send = let T = Finish.the_type in recorded_send (Struct (shape T)) T.D T.to T.to_one finish_field_send
-
 stage_send : IsSend (Stage.the_field).row
 stage_send = search (request_send, ending_send, crosses, sendable) depth 60 fits 20000
 
@@ -76,7 +73,7 @@ module _ (O : RattleType) (crossing : IsSend O) where
   dispatcher_send =
       let T = DispatcherInside.the_type O in
       view_send (DispatcherInside.the_row O) _ _ _ _ (recorded_send (Struct (shape T)) T.D T.to T.to_one (struct_send (shape T)
-      (seat_send, (shelf.the_send O crossing, (search (crosses, sendable) depth 60, (Vec-send Job.the_row job_send, (search (finish_send, crosses, sendable) depth 60, tt)))))))
+      (seat_send, (shelf.the_send O crossing, (search (crosses, sendable) depth 60, (Vec-send Job.the_row job_send, (search (crosses, sendable) depth 60, tt)))))))
 
 -- what a hand and a desk have, where the object may cross
 module _ (O : RattleType) (crossing : IsSend O) where

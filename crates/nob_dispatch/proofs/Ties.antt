@@ -1,10 +1,11 @@
 -- Jobs that are moved from one list to another.
-use Rattle.std.proofs.Common.{◌≡◌, ◌≤◌, ℕ, ◌+◌, ◌<◌, List, [], ◌∷◌, ◌++◌, length, Option, Some, refl, subst, sym, arith}
+use Rattle.std.proofs.Common.{◌≡◌, ◌≤◌, ℕ, ◌+◌, ◌<◌, List, [], ◌∷◌, ◌++◌, length, take, drop, Option, Some, refl, subst, sym, ap, ◌∙◌, arith}
 use Rattle.std.specs.Prelude.{None, slice_index_or}
 use Rattle.std.specs.List.{remove}
 use Prim.Native.Nat.{zero, suc}
 use Rattle.nob_model_types.specs.declared.answer.Job.{Job}
 use Rattle.nob_dispatch_lanes.specs.Balance.{times, weigh}
+use Rattle.nob_dispatch.specs.Dispatching.{IsWithout}
 use Rattle.nob_dispatch.specs.Ends.{numbers, with_job}
 
 weigh_remove : (h : Job → ℕ) (i : ℕ) (jobs : List Job) (d : Job) → i < length jobs → weigh h jobs ≡ weigh h (slice_index_or jobs i d ∷ remove jobs i)
@@ -15,6 +16,15 @@ weigh_remove h (suc i) (job ∷ jobs) d low = let ih = weigh_remove h i jobs d (
 -- a job that is taken out of others stands there once less
 pub weigh_removed : (h : Job → ℕ) (i : ℕ) (old new : List Job) (job : Job) → i < length old → job ≡ slice_index_or old i job → new ≡ remove old i → weigh h old ≡ weigh h (job ∷ new)
 weigh_removed h i old new job low is rest = subst (λ (j : Job). weigh h old ≡ weigh h (j ∷ new)) (sym is) (subst (λ (xs : List Job). weigh h old ≡ weigh h (slice_index_or old i job ∷ xs)) (sym rest) (weigh_remove h i old job low))
+
+parted : (i : ℕ) (jobs : List Job) (d : Job) → i < length jobs → jobs ≡ take i jobs ++ slice_index_or jobs i d ∷ drop (suc i) jobs
+parted i [] d low = absurd (omega (arith, low))
+parted zero (job ∷ jobs) d low = refl
+parted (suc i) (job ∷ jobs) d low = ap (λ (xs : List Job). job ∷ xs) (parted i jobs d (omega (arith, low)))
+
+-- and the others stand as they did
+pub removed : (i : ℕ) (old new : List Job) (job : Job) → i < length old → job ≡ slice_index_or old i job → new ≡ remove old i → IsWithout job old new
+removed i old new job low is rest = (take i old, drop (suc i) old, parted i old job low ∙ ap (λ (j : Job). take i old ++ j ∷ drop (suc i) old) (sym is), rest)
 
 weigh_push : (h : Job → ℕ) (jobs : List Job) (job : Job) → weigh h (jobs ++ job ∷ []) ≡ weigh h (job ∷ jobs)
 weigh_push h [] job = refl

@@ -237,6 +237,7 @@ impl<O: Object> Desk<O> {
         requires unsent { self.old.unsent ≡ None }
         requires room { self.old.away < 512 }
         ensures given { assigning.GivesOne result self.old self.new }
+        ensures goes_on { assigning.GoesOn self.old self.new }
         ensures claims { self.old.has_stopped ≡ true
             → claimed self.new.dispatcher.receipts ≡ claimed self.old.dispatcher.receipts }
         ensures stopped { self.new.has_stopped ≡ self.old.has_stopped }
@@ -298,6 +299,7 @@ fn step<O: Object, R: Wait, C: JobCalls>(
     ensures tied { (handed : List JobOf) → dispatching.IsTied handed dispatcher.old
         → dispatching.IsTied (dispatching.with_handed result handed) dispatcher.new }
     ensures object { dispatching.HandsOver result dispatcher.old.shelf dispatcher.new.shelf }
+    ensures goes_on { dispatching.GoesOn claims result dispatcher.old dispatcher.new }
     ensures claims { claims ≡ false → claimed dispatcher.new.receipts
         ≡ claimed dispatcher.old.receipts }
 {
@@ -328,6 +330,9 @@ fn keep_unsent<O: Object>(
     errand: Errand<O>,
 )
     ensures unsent { unsent.new ≡ Some errand.job }
+    ensures back { shelves.place_of errand.job.target dispatcher.old.shelf ≡ Some Away
+        → dispatcher.new.shelf ≡ shelves.with_place errand.job.target (Here errand.object)
+        dispatcher.old.shelf }
     ensures same { dispatching.IsSameBesideShelf dispatcher.old dispatcher.new }
     ensures tied { (handed : List JobOf) → dispatching.IsTied handed dispatcher.old
         → dispatching.IsTied handed dispatcher.new }

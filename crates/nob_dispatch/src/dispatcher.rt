@@ -1,6 +1,6 @@
 //! Who claims jobs.
 
-ghost use Rattle.std.specs.Prelude.{◌≡◌, ◌≢◌, ◌<◌, ◌+◌, ◌∷◌, [], ⊤, ℕ, List, true, false, None, Some, Ok, length, slice_index_or, OnOk, OnErr, IfOk, IfSome, MatchOption, MatchResult};
+ghost use Rattle.std.specs.Prelude.{◌≡◌, ◌≢◌, ◌<◌, ◌+◌, ◌∷◌, [], ⊤, ℕ, List, Bool, true, false, None, Some, Ok, is_some, length, slice_index_or, OnOk, OnErr, IfOk, IfSome, MatchOption, MatchResult};
 ghost use Rattle.nob_model_types.specs.declared.answer.Job.{Job as JobOf};
 ghost use Rattle.nob_dispatch_lanes.specs.Balance.{weigh};
 ghost use Rattle.nob_dispatch.specs.Dispatching as dispatching;
@@ -58,12 +58,12 @@ pub struct Dispatcher<O: Object> {
     is_due: bool,
     // The jobs whose objects are away, the first claimed first.
     waiting: Vec<Job>,
-    // What ends a job whose object isn't there.
-    ending: Option<Finish>,
+    // The job that is to be ended, since its object isn't there.
+    ending: Option<JobNo>,
 }
 
 impl<O: Object> Model for Dispatcher<O> {
-    ghost use Rattle.nob_dispatch.specs.Dispatching.{Dispatching, job_in};
+    ghost use Rattle.nob_dispatch.specs.Dispatching.{Dispatching};
 
     ghost Value = { Dispatching O };
 
@@ -77,7 +77,7 @@ impl<O: Object> Model for Dispatcher<O> {
       shelf = dispatcher.shelf;
       is_due = dispatcher.is_due;
       waiting = dispatcher.waiting.items;
-      ending = job_in dispatcher.ending;
+      ending = dispatcher.ending;
     } };
 }
 
@@ -188,6 +188,7 @@ impl<O: Object> Dispatcher<O> {
         ensures tied { (handed : List JobOf) → dispatching.IsTied handed self.old
             → dispatching.IsTied (dispatching.with_handed result handed) self.new }
         ensures object { dispatching.HandsOver result self.old.shelf self.new.shelf }
+        ensures goes_on { dispatching.GoesOn true result self.old self.new }
     {
         self.step(rt, keeper, true)
     }
@@ -202,6 +203,7 @@ impl<O: Object> Dispatcher<O> {
         ensures tied { (handed : List JobOf) → dispatching.IsTied handed self.old
             → dispatching.IsTied (dispatching.with_handed result handed) self.new }
         ensures object { dispatching.HandsOver result self.old.shelf self.new.shelf }
+        ensures goes_on { dispatching.GoesOn false result self.old self.new }
         ensures claims { claimed self.new.receipts ≡ claimed self.old.receipts }
     {
         self.step(rt, keeper, false)
@@ -217,6 +219,7 @@ impl<O: Object> Dispatcher<O> {
         ensures tied { (handed : List JobOf) → dispatching.IsTied handed self.old
             → dispatching.IsTied (dispatching.with_handed result handed) self.new }
         ensures object { dispatching.HandsOver result self.old.shelf self.new.shelf }
+        ensures goes_on { dispatching.GoesOn claims result self.old self.new }
         ensures claims { claims ≡ false
             → claimed self.new.receipts ≡ claimed self.old.receipts }
     {
@@ -243,6 +246,8 @@ impl<O: Object> Dispatcher<O> {
             → dispatching.IsTied (dispatching.with_handed (Ok handing) handed) self.new) }
         ensures object { IfSome result (λ handing.
             dispatching.HandsOver (Ok handing) self.old.shelf self.new.shelf) }
+        ensures goes_on { IfSome result (λ handing. (claims : Bool)
+            → dispatching.GoesOn claims (Ok handing) self.old self.new) }
         ensures receipts { self.new.receipts ≡ self.old.receipts }
     {
         let Some(job) = take_waiting(&self.shelf, &mut self.waiting) else {
@@ -264,11 +269,13 @@ impl<O: Object> Dispatcher<O> {
         ensures tied { (handed : List JobOf) → dispatching.IsTied handed self.old
             → dispatching.IsTied (dispatching.with_handed result handed) self.new }
         ensures object { dispatching.HandsOver result self.old.shelf self.new.shelf }
+        ensures goes_on { (claims : Bool) → dispatching.GoesOn claims result self.old self.new }
         ensures claims { claimed self.new.receipts ≡ claimed self.old.receipts }
     {
-        let Some(finish) = &self.ending else {
+        let Some(job) = self.ending else {
             return Ok(Handing::Idle);
         };
+        let finish = Finish::new(job, Ending::NoMethod);
         match finish.ask(rt, keeper, &mut self.seat)? {
             AfterFinish::Ended => {
                 self.ending = None;
@@ -280,10 +287,12 @@ impl<O: Object> Dispatcher<O> {
 
     // Claims a job, if there is one.
     fn claim<R: Wait, C: JobCalls>(&mut self, rt: &R, keeper: &C) -> Result<Handing<O>, KeeperError>
-        requires { self.old.is_due ≡ false }
+        requires due { self.old.is_due ≡ false }
+        requires ending { self.old.ending ≡ None }
         ensures tied { (handed : List JobOf) → dispatching.IsTied handed self.old
             → dispatching.IsTied (dispatching.with_handed result handed) self.new }
         ensures object { dispatching.HandsOver result self.old.shelf self.new.shelf }
+        ensures goes_on { dispatching.GoesOn true result self.old self.new }
     {
         if !keeper.has_job(rt) {
             return Ok(Handing::Idle);
@@ -303,6 +312,7 @@ impl<O: Object> Dispatcher<O> {
         ensures tied { (handed : List JobOf) → dispatching.IsTied handed self.old
             → dispatching.IsTied (dispatching.with_handed result handed) self.new }
         ensures object { dispatching.HandsOver result self.old.shelf self.new.shelf }
+        ensures goes_on { (claims : Bool) → dispatching.GoesOn claims result self.old self.new }
         ensures claims { claimed self.new.receipts ≡ claimed self.old.receipts }
     {
         let Some(job) = newest_job(&self.seat)? else {
@@ -339,7 +349,7 @@ impl<O: Object> Dispatcher<O> {
             shelf,
             is_due,
             waiting,
-            ending: job_in(&ending),
+            ending,
         }
     }
 }
@@ -355,10 +365,11 @@ fn is_away<O: Object>(shelf: &Shelf<O>, index: u64) -> bool
 }
 
 // Whether a job has to wait: its object is away, or another job is to be ended.
-fn must_wait<O: Object>(shelf: &Shelf<O>, ending: &Option<Finish>, index: u64) -> bool
+fn must_wait<O: Object>(shelf: &Shelf<O>, ending: &Option<JobNo>, index: u64) -> bool
     ensures here { result ≡ false
         → shelves.is_away (shelves.place_of index shelf.now) ≡ false }
-    ensures free { result ≡ false → dispatching.job_in ending.now ≡ None }
+    ensures free { result ≡ false → ending.now ≡ None }
+    ensures wait { result ≡ dispatching.must_wait index shelf.now ending.now }
 {
     if ending.is_some() {
         return true;
@@ -386,6 +397,7 @@ fn take_at(waiting: &mut Vec<Job>, place: usize) -> Job
     ensures job { result ≡ slice_index_or waiting.old.items place result }
     ensures once { (weight : JobOf → ℕ) → weigh weight waiting.old.items
         ≡ weigh weight (result ∷ waiting.new.items) }
+    ensures without { dispatching.IsWithout result waiting.old.items waiting.new.items }
 {
     waiting.remove(place)
 }
@@ -396,6 +408,8 @@ fn take_waiting<O: Object>(shelf: &Shelf<O>, waiting: &mut Vec<Job>) -> Option<J
         (waiting.new.items ≡ waiting.old.items)
         (λ job. (weight : JobOf → ℕ) → weigh weight waiting.old.items
         ≡ weigh weight (job ∷ waiting.new.items)) }
+    ensures without { IfSome result (λ job.
+        dispatching.IsWithout job waiting.old.items waiting.new.items) }
     ensures served { IfSome result (λ job.
         shelves.is_away (shelves.place_of job.target shelf.now) ≡ false) }
 {
@@ -406,40 +420,27 @@ fn take_waiting<O: Object>(shelf: &Shelf<O>, waiting: &mut Vec<Job>) -> Option<J
     Some(job)
 }
 
-// Gives a job its object, or keeps what ends it where its object isn't there.
-fn serve<O: Object>(
-    shelf: &mut Shelf<O>,
-    ending: &mut Option<Finish>,
-    job: Job,
-) -> Option<Errand<O>>
+// Gives a job its object, or keeps that it is to be ended where its object isn't there.
+fn serve<O: Object>(shelf: &mut Shelf<O>, ending: &mut Option<JobNo>, job: Job) -> Option<Errand<O>>
     requires { shelves.is_away (shelves.place_of job.target shelf.old) ≡ false }
     ensures absent { MatchOption result (shelves.place_of job.target shelf.old ≡ None)
         (λ _. ⊤) }
     ensures served { MatchOption result (shelf.new ≡ shelf.old)
         (λ errand. dispatching.IsHanded errand job shelf.old shelf.new) }
-    ensures ending { MatchOption result (dispatching.job_in ending.new ≡ Some job.job)
+    ensures ending { MatchOption result (ending.new ≡ Some job.job)
         (λ _. ending.new ≡ ending.old) }
 {
     let Some(object) = shelf.take(job.target) else {
-        *ending = Some(Finish::new(job.job, Ending::NoMethod));
+        *ending = Some(job.job);
         return None;
     };
     Some(Errand { job, object })
 }
 
-// The number of the job that a Finish ends, if there is one.
-fn job_in(ending: &Option<Finish>) -> Option<JobNo>
-    ensures { result ≡ dispatching.job_in ending.now }
-{
-    match ending {
-        Some(finish) => Some(finish.job),
-        None => None,
-    }
-}
-
 // Whether the newest receipt gives a job.
 fn has_job(seat: &Seat) -> bool
     ensures none { result ≡ false → dispatching.newest_job seat.now ≡ None }
+    ensures gives { result ≡ is_some (dispatching.newest_job seat.now) }
 {
     match seat.newest() {
         Some(receipt) => match &receipt.result {

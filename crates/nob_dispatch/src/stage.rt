@@ -83,6 +83,8 @@ impl Finish {
         ensures ended { IfOk result (λ after. after ≡ Ended
             → ended seat.new ≡ self.now.job ∷ ended seat.old) }
         ensures more { IfOk result (λ after. after ≢ Ended → ended seat.new ≡ ended seat.old) }
+        ensures accepted { IfOk result (λ after. after ≡ Ended → was_accepted seat.new ≡ true) }
+        ensures refused { IfOk result (λ after. after ≢ Ended → was_accepted seat.new ≡ false) }
         ensures claimed { claimed seat.new ≡ claimed seat.old }
         ensures adds { OnOk result (Adds seat.old seat.new self.now.event 0) }
         ensures after { IfOk result (λ after. IsAfter after seat.new) }

@@ -1,9 +1,13 @@
-use Rattle.std.proofs.Common.{rules, Some, inl, inr, length, ap, ◌∙◌}
+use Rattle.std.proofs.Common.{rules, ◌≡◌, ◌+◌, Some, inl, inr, length, ap, subst, ◌∙◌}
+use Rattle.nob_dispatch_lanes.specs.Ends.{stake_of}
 use Rattle.nob_dispatch.specs.declared.dispatcher.Handing.TheVariants as handings
 use Rattle.nob_dispatch.specs.declared.errand.Errand.{Errand}
+use Rattle.nob_dispatch.specs.declared.shelf.Place.TheVariants.{Here, Away}
 use Rattle.nob_dispatch.specs.Assigning.{Assigning}
 use Rattle.nob_dispatch.specs.Serving.{given, taken}
+use Rattle.nob_dispatch.specs.Shelves.{place_of, with_place}
 use Rattle.nob_dispatch.proofs.Givings.{given_more, given_none, handed_over, same_handed, counted}
+use Rattle.nob_dispatch.proofs.Placing.{put_back}
 use Rattle.nob_dispatch.proofs.desk.Desk.hand_on.Goals as goal
 
 pub invariant_of-self-in_default : goal.invariant_of-self-in_default
@@ -22,8 +26,29 @@ invariant_of-self-in-Errand g c =
 
 pub returns-in_default-clause-given : goal.returns-in_default-clause-given
 returns-in_default-clause-given g c =
-    let over = handed_over c.in_ok-errand.field-0 c.in-Errand.errand c.self.inside.dispatcher.shelf c.step.new.dispatcher.shelf c.in-Errand.is c.in_ok-errand.ensures.object in
-    rw (← c.self.view_is) (c.in-Errand.errand, c.in_default.ensures.answer, over.0, over.1)
+    let desk = c.self.inside in
+    let over = handed_over c.in_ok-errand.field-0 c.in-Errand.errand desk.dispatcher.shelf c.step.new.dispatcher.shelf c.in-Errand.is c.in_ok-errand.ensures.object in
+    let given_one = c.in_default.ensures in
+    rw (← c.self.view_is) (
+      c.in-Errand.errand,
+      λ i. record { given = given_one.answer i; back = taken desk.returns; unsent = desk.unsent; is_alone = given_one.gone i; away = desk.away + 1; has_stopped = desk.has_stopped; dispatcher = c.step.new.dispatcher; stakes = record { errands = given_one.stake i; returns = stake_of desk.returns.pass } },
+      over.0,
+      over.1,
+    )
+
+pub returns-in-Err-clause-given : goal.returns-in-Err-clause-given
+returns-in-Err-clause-given g c =
+    let desk = c.self.inside in let errand = c.in-Errand.errand in
+    let between = c.step.new.dispatcher.shelf in let after = c.keep_unsent.new.dispatcher.shelf in
+    let over = handed_over c.in_ok-errand.field-0 errand desk.dispatcher.shelf between c.in-Errand.is c.in_ok-errand.ensures.object in
+    let same = c.in-Err.ensures in
+    let kept = c.keep_unsent.ensures.unsent ∙ ap (λ (e : Errand _). Some e.job) same.answer in
+    let back = subst (λ (e : Errand _). place_of e.job.target between ≡ Some Away → after ≡ with_place e.job.target (Here e.object) between) same.answer c.keep_unsent.ensures.back in
+    rw (← c.self.view_is) (inr (
+      errand.job,
+      λ i. record { given = same.err i; back = taken desk.returns; unsent = kept i; is_alone = same.gone i; away = desk.away; has_stopped = desk.has_stopped; dispatcher = c.keep_unsent.new.dispatcher; stakes = record { errands = same.stake i; returns = stake_of desk.returns.pass } },
+      put_back errand.job.target errand.object desk.dispatcher.shelf between after over.0 over.1 back,
+    ))
 
 pub invariant_of-self : goal.invariant_of-self
 invariant_of-self g c = (c.in_err-errand.ensures.tied _ c.self.invariant.0, c.self.invariant.1, c.self.invariant.2, c.self.invariant.3)
