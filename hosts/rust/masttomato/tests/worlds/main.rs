@@ -1,6 +1,6 @@
 //! Worlds of engines without a network: 10,000 scripts from seeds, in which connections break at any
 //! byte and clocks jump. In each every call is answered once and carried out once at most, all objects are
-//! withdrawn once nobody holds them, and the traces of all nodes are a run. A script that fails is made
+//! withdrawn once nobody holds them, and the traces of all nodes are a run, as `nobj check` judges too where it is there. A script that fails is made
 //! shorter and printed; WORLD_SCRIPT names a file with one that is to be played again. In further worlds one
 //! node misbehaves: the others keep all that among each other. MASTTOMATO_TIMES=4 plays four times as many of each.
 
@@ -29,9 +29,6 @@ const RUNS: u64 = 10_000;
 /// Of worlds of other kinds there are fewer.
 const FEWER: u64 = 250;
 const THREADS: u64 = 2;
-/// `nobj check`, a process each time, judges one of so many of the first kind, and of the others.
-const CHECKED: u64 = 100;
-const OFTENER: u64 = 25;
 
 // So many of a kind, or as many times that as is said.
 fn many(runs: u64) -> u64 {
@@ -79,9 +76,7 @@ fn worlds_keep_their_promises() {
         replies.fetch_add(replied.into(), Relaxed);
         objects.fetch_add(exported, Relaxed);
         opened.fetch_add(world.opened(), Relaxed);
-        if seed.is_multiple_of(CHECKED)
-            && let Some(said) = nobj("check", world.traces().concat().as_bytes())
-        {
+        if let Some(said) = nobj("check", world.traces().concat().as_bytes()) {
             assert!(said.ends_with("\nverdict yes\n"), "seed {seed}: {said}");
             checked.fetch_add(1, Relaxed);
         }
@@ -124,9 +119,7 @@ fn worlds_in_which_one_misbehaves_keep_their_promises() {
         for (misdeed, count) in world.misdeeds() {
             *done.lock().expect("no panic").entry(misdeed).or_default() += count;
         }
-        if seed.is_multiple_of(OFTENER)
-            && let Some(said) = nobj("check", world.traces().concat().as_bytes())
-        {
+        if let Some(said) = nobj("check", world.traces().concat().as_bytes()) {
             assert!(is_judged(&said, &world), "seed {seed}: {said}");
         }
     };
