@@ -44,7 +44,7 @@ pub enum Assigned {
 /// objects come back by. Contracts see what the ends gave and got, and the dispatcher; these are
 /// tied.
 #[derive(Drop)]
-pub struct Desk<O: Object> {
+pub struct Desk<O: Drop> {
     dispatcher: Dispatcher<O>,
     errands: LanePut<Errand<O>>,
     returns: LaneTake<Return<O>>,
@@ -56,7 +56,7 @@ pub struct Desk<O: Object> {
     has_stopped: bool,
 }
 
-impl<O: Object> Model for Desk<O> {
+impl<O: Drop> Model for Desk<O> {
     ghost use Rattle.nob_dispatch.specs.Assigning.{Assigning};
 
     ghost Value = { Assigning O };

@@ -22,7 +22,7 @@ use std::sync::Wait;
 
 /// What a dispatcher did in a turn.
 #[derive(Drop)]
-pub enum Handing<O: Object> {
+pub enum Handing<O: Drop> {
     /// An errand is handed on.
     Errand(Errand<O>),
     /// Something else.
@@ -36,7 +36,7 @@ pub enum Handing<O: Object> {
 
 /// What a dispatcher leaves: all that it had.
 #[derive(Drop)]
-pub struct Remaining<O: Object> {
+pub struct Remaining<O: Drop> {
     /// Its seat.
     pub seat: Seat,
     /// The objects.
@@ -51,7 +51,7 @@ pub struct Remaining<O: Object> {
 
 /// Who claims the jobs of a space, over a seat of its own, and hands each on with its object.
 #[derive(Drop)]
-pub struct Dispatcher<O: Object> {
+pub struct Dispatcher<O: Drop> {
     seat: Seat,
     shelf: Shelf<O>,
     // Whether the job of the newest receipt is to be handed on.
@@ -62,7 +62,7 @@ pub struct Dispatcher<O: Object> {
     ending: Option<JobNo>,
 }
 
-impl<O: Object> Model for Dispatcher<O> {
+impl<O: Drop> Model for Dispatcher<O> {
     ghost use Rattle.nob_dispatch.specs.Dispatching.{Dispatching};
 
     ghost Value = { Dispatching O };

@@ -1,12 +1,11 @@
 //! Errands: jobs with their objects.
 
-use nob_dispatch_objects::Object;
 use nob_ids::JobNo;
 use nob_model_types::Job;
 
 /// A job with its object: what a worker is given.
 #[derive(Drop)]
-pub struct Errand<O: Object> {
+pub struct Errand<O: Drop> {
     /// The job.
     pub job: Job,
     /// The object that it calls.
@@ -15,7 +14,7 @@ pub struct Errand<O: Object> {
 
 /// An object that comes back from the job that it was away with.
 #[derive(Drop)]
-pub struct Return<O: Object> {
+pub struct Return<O: Drop> {
     /// The number of the job.
     pub job: JobNo,
     /// The object's index.

@@ -34,7 +34,7 @@ pub enum Deed {
 /// A worker with the end of the lane that its errands come by, and the end of the lane that their
 /// objects go back by. Contracts see what the ends got and gave, and the worker; these are tied.
 #[derive(Drop)]
-pub struct Hand<O: Object> {
+pub struct Hand<O: Drop> {
     worker: Worker<O>,
     errands: LaneTake<Errand<O>>,
     returns: LanePut<Return<O>>,
@@ -42,7 +42,7 @@ pub struct Hand<O: Object> {
     fault: Option<KeeperError>,
 }
 
-impl<O: Object> Model for Hand<O> {
+impl<O: Drop> Model for Hand<O> {
     ghost use Rattle.nob_dispatch.specs.Serving.{Serving};
 
     ghost Value = { Serving O };

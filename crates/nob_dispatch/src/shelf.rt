@@ -31,11 +31,11 @@ pub enum AddError<O> {
 /// The objects of a space, by their indexes. Each is here, or away with a job. Contracts see the
 /// places in the order of the indexes.
 #[derive(Drop)]
-pub struct Shelf<O: Object> {
+pub struct Shelf<O: Drop> {
     places: BTreeMap<u64, Place<O>>,
 }
 
-impl<O: Object> Model for Shelf<O> {
+impl<O: Drop> Model for Shelf<O> {
     ghost use Rattle.std.specs.Prelude.{ℕ, List};
     ghost use Rattle.nob_dispatch.specs.declared.shelf.Place.{Place};
 

@@ -10,7 +10,7 @@ ghost use Rattle.nob_dispatch.specs.declared.stage.AfterFinish.TheVariants.{Ende
 
 use crate::calls::JobCalls;
 use crate::errand::Errand;
-use nob_dispatch_objects::{Object, Outcome};
+use nob_dispatch_objects::Outcome;
 use nob_ids::{CallNo, JobNo};
 use nob_keeper::{KeeperError, Seat};
 use nob_model_types::{Event, Outcome as Ending, Refusal};
@@ -50,7 +50,7 @@ pub(crate) enum Stage {
 
 /// What a worker keeps.
 #[derive(Drop)]
-pub(crate) enum Keeping<O: Object> {
+pub(crate) enum Keeping<O: Drop> {
     /// Nothing.
     Nothing,
     /// A job with its object, and what is next for its method.

@@ -1,6 +1,6 @@
 //! Who carries jobs out.
 
-ghost use Rattle.std.specs.Prelude.{◌≡◌, ◌≢◌, ◌∷◌, [], Some, None, true, OnOk, OnErr, IfOk, IfErr, IfSome, MatchOption};
+ghost use Rattle.std.specs.Prelude.{◌≡◌, ◌≢◌, ◌∷◌, [], Some, None, true, false, OnOk, OnErr, IfOk, IfErr, IfSome, MatchOption};
 ghost use Rattle.nob_dispatch.specs.Ends.{ended};
 ghost use Rattle.nob_dispatch.specs.Faults as faults;
 ghost use Rattle.nob_dispatch.specs.Steps as steps;
@@ -21,7 +21,7 @@ use std::sync::Wait;
 
 /// What a worker did in a turn.
 #[derive(Drop)]
-pub enum Progress<O: Object> {
+pub enum Progress<O: Drop> {
     /// A step of the job that it keeps.
     Did,
     /// The method has ended: the object comes back. The Finish is next.
@@ -38,12 +38,12 @@ pub enum Progress<O: Object> {
 /// number of the job that it keeps, that job while it has its object, with the object and what is
 /// next for its method, and then the event that is to end the job.
 #[derive(Drop)]
-pub struct Worker<O: Object> {
+pub struct Worker<O: Drop> {
     seat: Seat,
     keeping: Keeping<O>,
 }
 
-impl<O: Object> Model for Worker<O> {
+impl<O: Drop> Model for Worker<O> {
     ghost use Rattle.nob_dispatch.specs.Working.{Working, job_in, running_in, course_in, closing_in};
 
     ghost Value = { Working O };
