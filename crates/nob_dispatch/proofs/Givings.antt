@@ -1,5 +1,5 @@
 -- An errand that a dispatcher handed on is given, or kept.
-use Rattle.std.proofs.Common.{◌≡◌, ℕ, ◌+◌, ◌≤◌, List, [], ◌∷◌, ◌++◌, length, Option, Some, None, refl, sym, subst, ap, ◌∙◌, arith, reverse}
+use Rattle.std.proofs.Common.{◌≡◌, ℕ, ◌+◌, ◌≤◌, List, [], ◌∷◌, ◌++◌, length, Option, Some, None, inl, refl, sym, subst, ap, ◌∙◌, arith, reverse}
 use Rattle.std.specs.Prelude.{Ok}
 use Rattle.std.proofs.lemmas.List.{reverse-append}
 use Rattle.nob_model_types.specs.declared.answer.Job.{Job}
@@ -11,7 +11,7 @@ use Rattle.nob_dispatch.specs.declared.shelf.Place.TheVariants.{Here, Away}
 use Rattle.nob_dispatch.specs.Ends.{with_job}
 use Rattle.nob_dispatch.specs.Dispatching.{Dispatching, IsTied, HandsOver, with_handed}
 use Rattle.nob_dispatch.specs.Shelves.{place_of, with_place}
-use Rattle.nob_dispatch.specs.Assigning.{jobs}
+use Rattle.nob_dispatch.specs.Assigning.{Assigning, GivesNone, GoesOn, jobs}
 
 module _ {O : Type 0} where
   length_push : (errands : List (Errand O)) (errand : Errand O) → length (errands ++ errand ∷ []) ≡ length errands + 1
@@ -47,3 +47,7 @@ module _ {O : Type 0} where
   -- nothing is handed on
   pub same_handed : (d : Dispatching O) (handing other : Handing O) (handed : List Job) → handing ≡ other → IsTied (with_handed (Ok handing) handed) d → IsTied (with_handed (Ok other) handed) d
   same_handed d handing other handed is tied = subst (λ (h : Handing O). IsTied (with_handed (Ok h) handed) d) is tied
+
+  -- a desk whose dispatcher does nothing gives none, and goes on so
+  pub rests : (desk : Assigning O) → GivesNone desk desk × GoesOn desk desk
+  rests desk = ((refl, refl), (Ok handings.Idle, desk.dispatcher, inl refl, (refl, refl, refl, refl), refl))

@@ -42,7 +42,7 @@ returns-in-Err-clause-given g c =
     let between = c.step.new.dispatcher.shelf in let after = c.keep_unsent.new.dispatcher.shelf in
     let over = handed_over c.in_ok-errand.field-0 errand desk.dispatcher.shelf between c.in-Errand.is c.in_ok-errand.ensures.object in
     let same = c.in-Err.ensures in
-    let kept = c.keep_unsent.ensures.unsent ∙ ap (λ (e : Errand _). Some e.job) same.answer in
+    let kept = subst (λ (e : Errand _). c.keep_unsent.new.unsent ≡ Some e.job) same.answer c.keep_unsent.ensures.unsent in
     let back = subst (λ (e : Errand _). place_of e.job.target between ≡ Some Away → after ≡ with_place e.job.target (Here e.object) between) same.answer c.keep_unsent.ensures.back in
     rw (← c.self.view_is) (inr (
       errand.job,

@@ -1,13 +1,12 @@
-use Rattle.std.proofs.Common.{Ok, refl, inl}
-use Rattle.nob_dispatch.specs.declared.dispatcher.Handing.TheVariants as handings
+use Rattle.nob_dispatch.proofs.Givings.{rests}
 use Rattle.nob_dispatch.proofs.desk.Desk.turn.Goals as goal
 
 pub returns-then-is_some-clause-given : goal.returns-then-is_some-clause-given
 returns-then-is_some-clause-given g c =
-    let between = c.take_back.new.self in
-    (between, c.take_back.ensures.back, (refl, refl), (Ok handings.Idle, between.dispatcher, inl refl, (refl, refl, refl, refl), refl))
+    let idle = rests c.take_back.new.self in
+    (c.take_back.new.self, c.take_back.ensures.back, idle.0, idle.1)
 
 pub returns-then-self-ge-MAX_AWAY-clause-given : goal.returns-then-self-ge-MAX_AWAY-clause-given
 returns-then-self-ge-MAX_AWAY-clause-given g c =
-    let between = c.take_back.new.self in
-    (between, c.take_back.ensures.back, (refl, refl), (Ok handings.Idle, between.dispatcher, inl refl, (refl, refl, refl, refl), refl))
+    let idle = rests c.take_back.new.self in
+    (c.take_back.new.self, c.take_back.ensures.back, idle.0, idle.1)
