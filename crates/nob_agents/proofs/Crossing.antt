@@ -6,7 +6,7 @@ use denote.Struct.Declared.{shape}
 use denote.Struct.Struct.{Struct}
 use Rattle.std.proofs.Crossing.{crosses, Vec-send}
 use Rattle.nob_bytes.proofs.owned.Bytes.TheSendSync as bytes
-use Rattle.nob_keeper.proofs.Crossing.{seat_send}
+pub use Rattle.nob_keeper.proofs.Crossing.{seat_send}
 use Rattle.nob_fault.proofs.shim.Shim.TheSendSync as shim
 use Rattle.nob_link.specs.contracts.parcel.Parcel as Parcel
 use Rattle.nob_model_types.specs.contracts.event.Event as Event

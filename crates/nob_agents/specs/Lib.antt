@@ -1,3 +1,5 @@
+pub use Rattle.nob_keeper.specs.Receipt
+pub use Rattle.nob_keeper.specs.Seats
 pub mod Taking
 pub mod Caring
 pub mod Ways

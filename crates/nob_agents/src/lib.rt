@@ -16,7 +16,7 @@ mod way;
 pub use calls::Calls;
 pub use carer::Carer;
 pub use due_event::DueEvent;
-pub use nob_keeper::{Dues, Keeper, KeeperError, Seat};
+pub use nob_keeper::{Dues, Keeper, KeeperError, Seat, lock_soon};
 pub use parcels::{PutParcel, TakeParcel};
 pub use prober::{Prober, Tallies};
 pub use sender::Sender;

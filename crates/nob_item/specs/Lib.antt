@@ -6,3 +6,6 @@ pub mod Writing
 pub mod Laws
 pub use Rattle.nob_ids.specs.Names
 pub use Rattle.nob_pickle.specs.Limits
+pub use Rattle.nob_pickle.specs.Shape
+pub use Rattle.nob_pickle.specs.Trees
+pub use Rattle.nob_pickle.specs.declared.value.Value

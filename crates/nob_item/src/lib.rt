@@ -12,5 +12,6 @@ mod writing;
 pub use counted::{counted_ref, counted_refs};
 pub use fault::{ItemError, ItemFault};
 pub use item::Item;
+pub use nob_pickle::Value;
 pub use reading::decode;
 pub use writing::{encode, encode_call, encode_reply};

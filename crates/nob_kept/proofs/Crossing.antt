@@ -53,7 +53,7 @@ use Rattle.nob_space_messages.specs.contracts.messages.Messages as Messages
 use Rattle.nob_space_messages.specs.contracts.messages.Messages.TheInside as MessagesInside
 use Rattle.nob_space_messages.specs.contracts.ready.Ready as ReadyJobs
 use Rattle.nob_space_messages.specs.contracts.waits.Waits as Waits
-use Rattle.nob_space_state.specs.contracts.parts.Parts as Parts
+use Rattle.nob_space.specs.Parts as Parts
 use Rattle.nob_table.proofs.table.ObjectTable.TheSendSync as table
 use Rattle.nob_kept.specs.contracts.summary.PeerTally as PeerTally
 use Rattle.nob_kept.specs.contracts.summary.Record as Record

@@ -1,5 +1,5 @@
 pub use Rattle.nob_space.specs.Spaces
-pub use Rattle.nob_space_state.specs.Dues
+pub use Rattle.nob_space.specs.Dues
 pub mod Staying
 pub mod Accounts
 pub mod Segments

@@ -3,7 +3,7 @@
 ghost use Rattle.std.specs.Prelude.{◌≡◌, ◌≢◌, ◌↔◌, ◌≤◌, ◌-◌, ◌⊎◌, [], ℕ, List, Some, None, true, Err, length, slice_get, IfOk, IfErr, IfSome, OnOk, OnErr};
 ghost use Rattle.nob_model.specs.Next as next;
 ghost use Rattle.nob_space.specs.Spaces.{StandsFor};
-ghost use Rattle.nob_space_state.specs.Dues as dues;
+ghost use Rattle.nob_space.specs.Dues as dues;
 ghost use Rattle.nob_chain.specs.Chains.{joined};
 ghost use Rattle.nob_trace.specs.Stamps.{last_stamp};
 ghost use Rattle.nob_kept.specs.Accounts as accounts;

@@ -13,12 +13,12 @@ use Rattle.nob_model_types.specs.declared.refusal.Refusal.{Refusal}
 use Rattle.nob_model_types.specs.declared.refusal.Refusal.TheVariants as refusals
 use Rattle.nob_model_types.specs.Objects.{is_exported, is_live}
 use Rattle.nob_model_types.specs.Turns.{is_pending, turns, is_own}
-use Rattle.nob_model_work.specs.declared.work.Stage.{Stage}
-use Rattle.nob_model_work.specs.declared.work.Stage.TheVariants as stages
-use Rattle.nob_model_work.specs.declared.work.OwnCall.{OwnCall}
-use Rattle.nob_model_work.specs.declared.work.Outstanding.{Outstanding}
-use Rattle.nob_model_work.specs.declared.gifts.Gift.{Gift}
-use Rattle.nob_model_work.specs.Gifts.{dirties_for}
+use Rattle.nob_model_history.specs.Stage.{Stage}
+use Rattle.nob_model_history.specs.Stage.TheVariants as stages
+use Rattle.nob_model_history.specs.OwnCall.{OwnCall}
+use Rattle.nob_model_history.specs.Outstanding.{Outstanding}
+use Rattle.nob_model_history.specs.Gift.{Gift}
+use Rattle.nob_model_history.specs.Gifts.{dirties_for}
 use Rattle.nob_model_history.specs.declared.history.History.{History}
 use Rattle.nob_model_history.specs.Ends.{items_to}
 use Rattle.nob_model_history.specs.Transit.{has_bundle, surrogates}

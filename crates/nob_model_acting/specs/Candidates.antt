@@ -6,7 +6,7 @@ use Rattle.nob_item.specs.declared.item.Item.{Item}
 use Rattle.nob_item.specs.declared.item.Item.TheVariants as items
 use Rattle.nob_model_types.specs.Turns.{is_resolved}
 use Rattle.nob_model_types.specs.declared.message.Message.{Message}
-use Rattle.nob_model_work.specs.declared.work.Outstanding.{Outstanding}
+use Rattle.nob_model_history.specs.Outstanding.{Outstanding}
 use Rattle.nob_model_history.specs.declared.history.History.{History}
 use Rattle.nob_model_history.specs.Transit.{first_idle}
 

@@ -10,11 +10,9 @@ ghost use Rattle.nob_model_acting.specs.Acting as words;
 use crate::sending::{has_numbers, is_gone};
 use nob_ids::{CallNo, ItemNo, Reason, SpaceId, WireRep};
 use nob_item::Item;
-use nob_model_history::History;
 use nob_model_history::transit::{has_bundle, surrogates};
+use nob_model_history::{Gift, History, Outstanding, OwnCall, Stage, dirties_for};
 use nob_model_types::{Answer, Here, Refusal, objects, turns};
-use nob_model_work::gifts::dirties_for;
-use nob_model_work::{Gift, Outstanding, OwnCall, Stage};
 use std::alloc::{AllocError, Global};
 
 /// The maximum number of messages.

@@ -8,11 +8,10 @@ ghost use Rattle.nob_model_acting.specs.Candidates as words;
 
 use nob_ids::WireRep;
 use nob_item::Item;
-use nob_model_history::History;
 use nob_model_history::transit::first_idle;
+use nob_model_history::{History, Outstanding, Run};
 use nob_model_types::message::{Message, RefCopy};
 use nob_model_types::{Deed, Here, turns};
-use nob_model_work::{Outstanding, Run};
 use std::alloc::{AllocError, Global};
 
 // Whether a reference is resolved.

@@ -8,7 +8,7 @@ use Rattle.std.proofs.lemmas.List.{length-append}
 use Rattle.std.proofs.lemmas.Option.{slice_get_within}
 use Rattle.nob_ids.specs.declared.reason.Reason.{Reason}
 use Rattle.nob_item.specs.declared.item.Item.{Item}
-use Rattle.nob_frame.specs.declared.frame.Frame.{Frame}
+use Rattle.nob_model_session.specs.Frame.{Frame}
 use Rattle.nob_model_session.specs.End.{is_present, accepted_count, brings_at, payload, accepted, handed, takes, is_open}
 use Rattle.nob_model_session.specs.End as end
 use Rattle.nob_model_session.specs.Right.{right_front, first_of}

@@ -4,7 +4,7 @@ use Rattle.std.specs.Prelude.{◌==◌}
 use Rattle.std.proofs.lemmas.Bool.{eqb-true}
 use Rattle.nob_ids.specs.declared.reason.Reason.{Reason}
 use Rattle.nob_item.specs.declared.item.Item.{Item}
-use Rattle.nob_frame.specs.declared.frame.Frame.{Frame}
+use Rattle.nob_model_session.specs.Frame.{Frame}
 use Rattle.nob_model_session.specs.End.{handed, is_present}
 use Rattle.nob_model_session.specs.End as end
 use Rattle.nob_model_session.specs.declared.entry.EndEntry.{EndEntry}

@@ -1,7 +1,7 @@
 -- The calls that a space makes on its end of the session with each peer.
 use Rattle.std.specs.Prelude.{ℕ, ◌+◌, Bool, true, false, ◌==◌, List, [], ◌∷◌, ◌++◌, length, map, filter, Option, Some, None, Result, Ok, Err, nat_le, if◌then◌else◌}
 use Rattle.nob_ids.specs.declared.reason.Reason.{Reason}
-use Rattle.nob_frame.specs.declared.frame.Frame.{Frame}
+use Rattle.nob_model_session.specs.Frame.{Frame}
 use Rattle.nob_item.specs.Writing.{bytes_of}
 use Rattle.nob_item.specs.declared.fault.ItemFault.{ItemFault}
 use Rattle.nob_item.specs.declared.item.Item.{Item}

@@ -5,6 +5,10 @@ pub use Rattle.nob_model_types.specs.Turns
 pub use Rattle.nob_model_types.specs.Messages
 pub use Rattle.nob_model_work.specs.Work
 pub use Rattle.nob_model_work.specs.Gifts
+pub use Rattle.nob_model_work.specs.declared.work.Outstanding
+pub use Rattle.nob_model_work.specs.declared.work.OwnCall
+pub use Rattle.nob_model_work.specs.declared.work.Stage
+pub use Rattle.nob_model_work.specs.declared.gifts.Gift
 pub mod Histories
 pub mod Ends
 pub mod Holds

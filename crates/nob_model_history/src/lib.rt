@@ -12,4 +12,6 @@ pub mod listing;
 pub mod transit;
 
 pub use history::{History, history_of, make_history};
+pub use nob_model_work::gifts::dirties_for;
+pub use nob_model_work::{Gift, Outstanding, OwnCall, Run, Stage};
 pub use transit::SentItem;

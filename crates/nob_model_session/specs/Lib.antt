@@ -1,6 +1,7 @@
 pub use Rattle.nob_ids.specs.Names
 pub use Rattle.nob_ids.specs.Reasons
 pub use Rattle.nob_frame.specs.Kinds
+pub use Rattle.nob_frame.specs.declared.frame.Frame
 pub mod Texts
 pub mod End
 pub mod Right

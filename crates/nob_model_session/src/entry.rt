@@ -3,8 +3,7 @@
 ghost use Rattle.std.specs.Prelude.{◌≡◌, IfOk, length};
 
 use crate::refusal::EndRefusal;
-use nob_bytes::Bytes;
-use nob_frame::Frame;
+use nob_frame::{Bytes, Frame};
 use nob_ids::{ItemNo, Reason, SpaceId};
 use std::alloc::AllocError;
 use std::marker::Model;

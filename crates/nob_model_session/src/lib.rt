@@ -11,4 +11,5 @@ mod refusal;
 pub mod right;
 
 pub use entry::{Arrived, EndEntry, Ending, Frames, Kind, PairEntry};
+pub use nob_frame::Frame;
 pub use refusal::EndRefusal;

@@ -11,8 +11,7 @@ ghost use Rattle.nob_model_session.specs.Right as right;
 use crate::end::{self, LAST_ITEM};
 use crate::entry::{Arrived, EndEntry, Ending, Kind};
 use crate::refusal::EndRefusal;
-use nob_bytes::Bytes;
-use nob_frame::{Frame, FrameKind};
+use nob_frame::{Bytes, Frame, FrameKind};
 use nob_ids::{ItemNo, Limits, Reason, SpaceId};
 use std::alloc::{AllocError, Global};
 

@@ -1,5 +1,7 @@
 pub use Rattle.nob_ids.specs.Names
 pub use Rattle.nob_item.specs.Kinds
+pub use Rattle.nob_item.specs.declared.item.Item
+pub use Rattle.nob_item.specs.Value
 pub mod Deeds
 pub mod Sessions
 pub mod Objects

@@ -3,9 +3,9 @@ use Rattle.std.specs.Prelude.{ℕ, Bool, true, false, ◌&&◌, ◌==◌, List}
 use Rattle.std.specs.Ordering.{int_eq}
 use Rattle.std.specs.Str.{bytes_eq}
 use Rattle.nob_ids.specs.Names.{is_same}
-use Rattle.nob_pickle.specs.Shape.{tree}
-use Rattle.nob_pickle.specs.Trees.{Tree, Trees, unit, int, bytes, list, ref, none, more}
-use Rattle.nob_pickle.specs.declared.value.Value.{Value}
+use Rattle.nob_item.specs.Shape.{tree}
+use Rattle.nob_item.specs.Trees.{Tree, Trees, unit, int, bytes, list, ref, none, more}
+use Rattle.nob_item.specs.Value.{Value}
 
 abbrev mutual
   -- whether two trees are the same

@@ -2,7 +2,7 @@
 -- with nothing: each word about the session with a peer is read since the last Open of it.
 use Rattle.std.specs.Prelude.{ℕ, ◌+◌, Bool, false, ◌&&◌, ◌||◌, not, ◌==◌, nat_le, List, [], ◌∷◌, ◌++◌, Option, Some, None, Result, Ok, Err, option_and_then, if◌then◌else◌}
 use Rattle.std.specs.Option.{option_or}
-use Rattle.nob_frame.specs.declared.frame.Frame.{Frame}
+use Rattle.nob_model_session.specs.Frame.{Frame}
 use Rattle.nob_item.specs.Reading.{item_read}
 use Rattle.nob_item.specs.declared.item.Item.{Item}
 use Rattle.nob_item.specs.declared.fault.ItemFault.{ItemFault}

@@ -3,8 +3,8 @@
 ghost use Rattle.std.specs.Prelude.{◌≡◌, IfOk};
 
 use nob_ids::{CallNo, ItemNo, JobNo, Reason, SpaceId, WireRep};
+use nob_item::Value;
 use nob_model_session::Frames;
-use nob_pickle::Value;
 use std::alloc::AllocError;
 
 /// A call that its owner is to carry out.

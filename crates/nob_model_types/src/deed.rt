@@ -4,10 +4,9 @@ ghost use Rattle.std.specs.Prelude.{◌≡◌, ◌≤◌, IfOk, length};
 ghost use Rattle.nob_model_types.specs.Deeds.{deed_of, deed_in, deeds as deeds_of};
 
 use crate::{Answer, Entry, Event, Job, Outcome};
-use nob_frame::Frame;
 use nob_ids::{CallNo, ItemNo, JobNo, Reason, SpaceId, WireRep};
-use nob_model_session::Frames;
-use nob_pickle::Value;
+use nob_item::Value;
+use nob_model_session::{Frame, Frames};
 use std::alloc::{AllocError, Global};
 
 /// By which event a session closed.

@@ -2,9 +2,9 @@
 
 ghost use Rattle.std.specs.Prelude.{◌≡◌, IfOk};
 
-use nob_frame::Frame;
 use nob_ids::{CallNo, JobNo, SpaceId, WireRep};
-use nob_pickle::Value;
+use nob_item::Value;
+use nob_model_session::Frame;
 use std::alloc::AllocError;
 
 /// What a job's method made of its call.

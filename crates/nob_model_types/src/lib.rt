@@ -25,6 +25,7 @@ pub use entry::{Entry, WorldStep};
 pub use event::{Event, Outcome};
 pub use here::Here;
 pub use message::{Loan, Message, RefCopy};
+pub use nob_item::{Item, Value, counted_refs};
 pub use nob_slots::List;
 pub use refusal::{Refusal, Use};
 pub use same::same_value;

@@ -1,10 +1,10 @@
 //! Whether two values are the same.
 
 ghost use Rattle.std.specs.Prelude.{◌≡◌};
-ghost use Rattle.nob_pickle.specs.Shape.{forest};
+ghost use Rattle.nob_item.specs.Shape.{forest};
 ghost use Rattle.nob_model_types.specs.Same.{same_value as is_same_value, same_trees};
 
-use nob_pickle::Value;
+use nob_item::Value;
 
 /// Whether two values are the same. It recurses once for each level of them.
 #[cycle(same)]

@@ -2,11 +2,11 @@
 use Rattle.std.specs.Prelude.{ℕ, Bool, not, List, [], ◌∷◌, Option, Some, None, map, filter, find, if◌then◌else◌}
 use Rattle.nob_ids.specs.Names.{is_same}
 use Rattle.nob_ids.specs.declared.wire_rep.WireRep.{WireRep}
-use Rattle.nob_item.specs.Kinds.{counted_in}
-use Rattle.nob_item.specs.declared.item.Item.{Item}
-use Rattle.nob_item.specs.declared.item.Item.TheVariants as items
-use Rattle.nob_pickle.specs.declared.value.Value.{Value}
-use Rattle.nob_pickle.specs.declared.value.Value.TheVariants as values
+use Rattle.nob_model_types.specs.Kinds.{counted_in}
+use Rattle.nob_model_types.specs.Item.{Item}
+use Rattle.nob_model_types.specs.Item.TheVariants as items
+use Rattle.nob_model_types.specs.Value.{Value}
+use Rattle.nob_model_types.specs.Value.TheVariants as values
 use Rattle.nob_model_types.specs.declared.event.Outcome.{Outcome}
 use Rattle.nob_model_types.specs.declared.event.Outcome.TheVariants as outcomes
 use Rattle.nob_model_types.specs.declared.deed.Deed.{Deed}

@@ -2,9 +2,9 @@
 -- the space's own calls whose replies aren't taken.
 use Rattle.std.specs.Prelude.{ℕ, Bool, true, false, ◌&&◌, not, ◌==◌, List, [], ◌∷◌, ◌++◌, Option, Some, None, map, filter, find, if◌then◌else◌}
 use Rattle.std.specs.List.{list_any}
-use Rattle.nob_item.specs.declared.item.Item.{Item}
-use Rattle.nob_item.specs.declared.item.Item.TheVariants as items
-use Rattle.nob_pickle.specs.declared.value.Value.TheVariants as values
+use Rattle.nob_model_types.specs.Item.{Item}
+use Rattle.nob_model_types.specs.Item.TheVariants as items
+use Rattle.nob_model_types.specs.Value.TheVariants as values
 use Rattle.nob_model_types.specs.declared.answer.Job.{Job}
 use Rattle.nob_model_types.specs.declared.deed.Deed.{Deed}
 use Rattle.nob_model_types.specs.declared.deed.Deed.TheVariants.{Call, TakeReply, TakeEnd, Claim, Finish, DropReply, Act, Settle, Closing}

@@ -3,8 +3,8 @@
 ghost use Rattle.std.specs.Prelude.{◌≡◌, [], ◌∷◌, not, IfOk, Some, map, filter, find, if◌then◌else◌};
 ghost use Rattle.std.specs.Option.{option_map};
 ghost use Rattle.nob_ids.specs.Names.{is_same};
-ghost use Rattle.nob_item.specs.Kinds.{counted_in};
-ghost use Rattle.nob_item.specs.declared.item.Item.TheVariants as items;
+ghost use Rattle.nob_model_types.specs.Kinds.{counted_in};
+ghost use Rattle.nob_model_types.specs.Item.TheVariants as items;
 ghost use Rattle.nob_model_types.specs.Sessions.{is_peer, item_at};
 ghost use Rattle.nob_model_types.specs.Turns.{wants_dirty as is_wanted, turns as turns_word};
 ghost use Rattle.nob_model_types.specs.Messages.{is_of};
@@ -13,10 +13,8 @@ ghost use Rattle.nob_model_work.specs.Gifts as words;
 
 use crate::work::{self, Outstanding, Run};
 use nob_ids::{CallNo, ItemNo, JobNo, SpaceId, WireRep};
-use nob_item::Item;
 use nob_model_types::message::{self, Message, is_lost_message};
-use nob_model_types::{Deed, Here, List, Outcome, objects, sessions, turns};
-use nob_pickle::Value;
+use nob_model_types::{Deed, Here, Item, List, Outcome, Value, objects, sessions, turns};
 use std::alloc::{AllocError, Global};
 
 /// An item that is given to a peer.
@@ -113,7 +111,7 @@ pub fn dirties_for(
     ensures { IfOk result (λ dirties. dirties.items
         ≡ words.dirties_for here.now.space here.now.n deeds.now (counted_in item.now)) }
 {
-    let reps = nob_item::counted_refs(alloc, item)?;
+    let reps = nob_model_types::counted_refs(alloc, item)?;
     let each = once(alloc, reps.as_slice())?;
     dirties_of(alloc, here, deeds, each.as_slice())
 }

@@ -8,13 +8,11 @@ ghost use Rattle.nob_model_types.specs.Messages as message_words;
 ghost use Rattle.nob_model_work.specs.Work as words;
 
 use nob_ids::{CallNo, ItemNo, JobNo, SpaceId};
-use nob_item::Item;
 use nob_model_types::message::{
     self, Message, is_job, is_lost_message, is_of, message_after, messages_after, new_message,
     replies_to,
 };
-use nob_model_types::{Deed, Here, Job, List, sessions};
-use nob_pickle::Value;
+use nob_model_types::{Deed, Here, Item, Job, List, Value, sessions};
 use std::alloc::{AllocError, Global};
 
 /// How far a call of this space has come.

@@ -4,7 +4,7 @@ use denote.RattleType.{RattleType}
 use denote.Param.Send.{IsSend, struct_send}
 use denote.Struct.Declared.{shape}
 use Rattle.std.proofs.Crossing.{Vec-send}
-use Rattle.nob_keeper.proofs.Crossing.{record_send}
+pub use Rattle.nob_keeper.proofs.Crossing.{record_send}
 use Rattle.nob_node.specs.contracts.running.Report as Report
 pub use Rattle.nob_node_site.proofs.Crossing.{left_send}
 

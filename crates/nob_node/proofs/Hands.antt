@@ -1,7 +1,7 @@
 -- Hands that end, one after the other.
 use Rattle.std.proofs.Common.{◌≡◌, ◌==◌, ◌≤◌, ◌++◌, ℕ, suc, zero, arith, Bool, false, true≢false, sym, ◌∙◌, List, [], ◌∷◌, length, drop, get_or, subst}
-use Rattle.nob_dispatch.specs.Serving.{Serving}
-use Rattle.nob_dispatch.specs.declared.errand.Errand.{Errand}
+use Rattle.nob_node_site.specs.Serving.{Serving}
+use Rattle.nob_node_site.specs.Errand.{Errand}
 use Rattle.nob_dispatch_lanes.specs.declared.ends.LaneTake.{LaneTake}
 use Rattle.nob_node_site.specs.Place.{Place}
 use Rattle.nob_node_site.specs.Kept.{Kept}

@@ -2,9 +2,9 @@
 use Rattle.std.specs.Prelude.{◌≡◌, ℕ, true, List, [], ◌∷◌, ◌++◌, map, Option, Some, None, Result, Ok, Err}
 use Rattle.std.specs.Global.{Vec}
 use Rattle.nob_model_types.specs.declared.answer.Job.{Job}
-use Rattle.nob_dispatch.specs.declared.errand.Errand.{Errand}
-use Rattle.nob_dispatch.specs.Serving.{Serving}
-use Rattle.nob_dispatch.specs.Steps.{object_in}
+use Rattle.nob_node_site.specs.Errand.{Errand}
+use Rattle.nob_node_site.specs.Serving.{Serving}
+use Rattle.nob_node_site.specs.Steps.{object_in}
 use Rattle.nob_dispatch_lanes.specs.declared.ends.LaneTake.{LaneTake}
 use Rattle.nob_dispatch_lanes.specs.Ends.{got_by}
 use Rattle.nob_node_site.specs.Assigning.{with_return}

@@ -10,7 +10,8 @@ use Rattle.nob_agents.specs.contracts.parcels.PutEndPutParcel.TheImpl.{ghosts}
 use Rattle.nob_agents.specs.contracts.taker.Taker as Taker
 use Rattle.nob_agents.specs.contracts.way.Way as Way
 use Rattle.nob_agents.specs.declared.parcels.TakeParcel as TakeParcel
-use Rattle.nob_keeper.proofs.Crossing.{seat_send}
+use Rattle.nob_agents.proofs.Crossing.{seat_send}
+pub use Rattle.nob_agents.proofs.Crossing.{prober_send}
 use Rattle.nob_link.proofs.ends.PutEnd.TheSendSync as put_end
 use Rattle.nob_link.proofs.ends.TakeEnd.TheSendSync as take_end
 use Rattle.nob_link.specs.contracts.ends.PutEnd as PutEnd

@@ -5,7 +5,7 @@ use Rattle.nob_model_types.specs.declared.event.Event.TheVariants as events
 use Rattle.nob_model_types.specs.declared.answer.Answer.{Answer}
 use Rattle.nob_model_types.specs.declared.answer.Answer.TheVariants as answers
 use Rattle.nob_model_types.specs.declared.refusal.Refusal.{Refusal}
-use Rattle.nob_keeper.specs.Receipt.{Receipt}
+use Rattle.nob_agents.specs.Receipt.{Receipt}
 
 -- whether there is a receipt, and it is of a refusal
 abbrev pub is_refused : Option Receipt → Bool

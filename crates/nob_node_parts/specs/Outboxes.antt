@@ -2,7 +2,7 @@
 use Rattle.std.specs.Prelude.{List, Option, Some, None}
 use Rattle.nob_agents.specs.Ways.{Way}
 use Rattle.nob_agents.specs.Sending.{Sending}
-use Rattle.nob_keeper.specs.Receipt.{Receipt}
+use Rattle.nob_agents.specs.Receipt.{Receipt}
 use Rattle.nob_node_parts.specs.declared.outbox.Outbox.{Outbox}
 
 -- the receipts of a Sender, or else those that are left of one

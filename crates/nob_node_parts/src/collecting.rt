@@ -1,7 +1,7 @@
 //! What settles, cleans and withdraws, as the threads of a node share it.
 
 ghost use Rattle.std.specs.Prelude.{◌≡◌};
-ghost use Rattle.nob_keeper.specs.Seats as seats;
+ghost use Rattle.nob_agents.specs.Seats as seats;
 ghost use Rattle.nob_node_parts.specs.Collected as collected;
 
 use nob_agents::{Carer, Keeper, KeeperError, Seat, Turn};

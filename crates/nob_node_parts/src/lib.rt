@@ -24,7 +24,9 @@ pub use idlers::Idlers;
 pub use inbox::Inbox;
 pub use inboxes::Inboxes;
 pub use lookout::Lookout;
-pub use nob_agents::{Calls, Carer, Prober, Sender, Taker, Turn, Way};
+pub use nob_agents::{
+    Calls, Carer, Keeper, KeeperError, Prober, Sender, Taker, Turn, Way, lock_soon,
+};
 pub use object::{Kept, LeftObject};
 pub use outbox::{Outbox, Pulse};
 pub use pace::Pace;

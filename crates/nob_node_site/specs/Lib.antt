@@ -3,6 +3,9 @@ pub use Rattle.nob_node_jobs.specs.Shelves
 pub use Rattle.nob_node_jobs.specs.Place
 pub use Rattle.nob_node_jobs.specs.Return
 pub use Rattle.nob_node_jobs.specs.Assigning
+pub use Rattle.nob_node_jobs.specs.Serving
+pub use Rattle.nob_node_jobs.specs.Steps
+pub use Rattle.nob_node_jobs.specs.Errand
 pub use Rattle.nob_node_jobs.specs.declared.putting.Placed
 pub use Rattle.nob_node_parts.specs.Objects
 pub use Rattle.nob_node_parts.specs.declared.object.Kept

@@ -6,7 +6,7 @@ use denote.Struct.Declared.{shape}
 use denote.Struct.Struct.{Struct}
 use denote.Struct.Tuple.{Tuple, tuple_type}
 use Rattle.std.proofs.Crossing.{crosses, Vec-send}
-use Rattle.nob_keeper.proofs.Crossing.{record_send}
+use Rattle.nob_node.proofs.Crossing.{record_send}
 use Rattle.nob_node.proofs.Crossing.{left_send}
 use Rattle.nob_node.proofs.error.NodeError.TheSendSync as node_error
 use Rattle.nob_node.specs.contracts.running.Report as Report

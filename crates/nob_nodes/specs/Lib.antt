@@ -1,4 +1,4 @@
-pub use Rattle.nob_keeper.specs.Keep
+pub use Rattle.nob_node.specs.Keep
 pub use Rattle.nob_node.specs.Receipt
 pub use Rattle.nob_node.specs.Calls
 pub use Rattle.nob_node.specs.declared.error.NodeError

@@ -1,8 +1,8 @@
 //! What an application does at one of several nodes.
 
 ghost use Rattle.std.specs.Prelude.{◌≡◌, IfOk};
-ghost use Rattle.nob_keeper.specs.Accounts.{keeps_all};
-ghost use Rattle.nob_keeper.specs.Summaries.{is_chain};
+ghost use Rattle.nob_node.specs.Accounts.{keeps_all};
+ghost use Rattle.nob_node.specs.Summaries.{is_chain};
 ghost use Rattle.nob_node.specs.Records.{IsRecorded, IsOwn};
 
 use crate::meeting::Company;

@@ -3,7 +3,7 @@ use Rattle.std.proofs.Common.{◌≡◌, ◌≤◌, ℕ, List}
 use Rattle.nob_ids.specs.declared.limits.Limits.{Limits}
 use Rattle.nob_model_types.specs.declared.entry.Entry.{Entry}
 use Rattle.nob_model_types.specs.Deeds.{deeds}
-use Rattle.nob_model_lives.specs.Births.{Birth, IsBorn, IsInRange}
+use Rattle.nob_model_births.specs.Births.{Birth, IsBorn, IsInRange}
 use Rattle.nob_model_births.proofs.Reached.{reached_law}
 use Rattle.nob_space_state.specs.Parts.{State}
 use Rattle.nob_space_state.specs.Stands.{Stands}

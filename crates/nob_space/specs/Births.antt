@@ -1,6 +1,6 @@
 -- Why a space doesn't begin.
 use Rattle.std.specs.Prelude.{ℕ}
-use Rattle.nob_model_lives.specs.Births.{Birth, IsInRange}
+use Rattle.nob_model_births.specs.Births.{Birth, IsInRange}
 use Rattle.nob_space_state.specs.Births.{IsFault}
 use Rattle.nob_space_state.specs.declared.birth.BirthError.{BirthError}
 use Rattle.nob_space_state.specs.declared.birth.BirthError.TheVariants as errors

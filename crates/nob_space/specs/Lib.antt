@@ -1,3 +1,5 @@
+pub use Rattle.nob_space_state.specs.Dues
+pub use Rattle.nob_space_state.specs.contracts.parts.Parts
 pub mod Spaces
 pub mod Steps
 pub mod Events

@@ -15,7 +15,7 @@ ghost use Rattle.nob_model_history.specs.Listing.{is_listed};
 ghost use Rattle.nob_model.specs.Next as next;
 ghost use Rattle.nob_model.specs.Right.{right};
 ghost use Rattle.nob_model.specs.Tallies as tallies;
-ghost use Rattle.nob_model_lives.specs.Births.{IsBorn, IsInRange};
+ghost use Rattle.nob_model_births.specs.Births.{IsBorn, IsInRange};
 ghost use Rattle.nob_space_state.specs.Births.{life_of};
 ghost use Rattle.nob_space_state.specs.Dues as dues;
 ghost use Rattle.nob_space_state.specs.Stands.{AnswersOrWants};

@@ -1,6 +1,6 @@
 use Rattle.std.proofs.Common.{◌≡◌, false, ◌<◌, ◌≤◌, List, [], ◌∷◌, length, refl, arith}
-use Rattle.nob_pickle.specs.Shape.{forest}
-use Rattle.nob_pickle.specs.declared.value.Value.{Value}
+use Rattle.nob_item.specs.Shape.{forest}
+use Rattle.nob_item.specs.Value.{Value}
 use Rattle.nob_model_types.specs.Same.{same_trees}
 use Rattle.nob_model_types.proofs.same.+same.Goals as goal
 

@@ -1,5 +1,5 @@
-use Rattle.nob_pickle.specs.Shape.{tree, forest}
-use Rattle.nob_pickle.specs.Trees.{weight, weight_all}
+use Rattle.nob_item.specs.Shape.{tree, forest}
+use Rattle.nob_item.specs.Trees.{weight, weight_all}
 use Rattle.nob_model_types.proofs.same.+same.Given as goal
 
 abbrev pub decreases-same_value : goal.decreases-same_value
