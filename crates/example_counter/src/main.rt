@@ -6,10 +6,10 @@
 mod counter;
 
 use crate::counter::Counter;
-use nob_pickle::Value;
-use nob_two_nodes::{
+use nob_nodes::{
     Company, Node, Player, answer_to, give_back, look_up, offer, partner_of, retire, run_two,
 };
+use nob_pickle::Value;
 use std::io;
 use std::sync::Wait;
 

@@ -11,7 +11,7 @@ ghost use Rattle.nob_case_texts.specs.Words as spec;
 
 use crate::unanswered::Unanswered;
 use nob_ids::{Limits, Reason, SpaceId, WireRep};
-use nob_text::{bytes_of, number_of};
+use nob_model_text::{bytes_of, number_of};
 use std::alloc::Global;
 
 /// No part of bytes, no element and no case stands more often.

@@ -3,7 +3,7 @@ use Rattle.std.proofs.Common.{◌≡◌, ℕ, suc, ◌+◌, ◌<◌, List, [], �
 use Rattle.std.specs.Prelude.{IsErrAnd, Option, Some, None}
 use Rattle.std.specs.List.{AllByRecursion}
 use Rattle.std.specs.Fmt.{decimal}
-use Rattle.nob_text.proofs.Ahead.{first_ahead}
+use Rattle.nob_model_text.proofs.Ahead.{first_ahead}
 use Rattle.nob_ids.specs.declared.reason.Reason.{Reason}
 use Rattle.nob_ids.specs.Reasons.{reason_number}
 use Rattle.nob_frame.specs.declared.version.Version.TheVariants.{Two}

@@ -3,7 +3,7 @@ use Rattle.std.proofs.Common.{◌≡◌, ℕ, ◌+◌, List, [], ◌∷◌, ◌+
 use Rattle.std.specs.declared.alloc.AllocError.{AllocError}
 use Rattle.std.proofs.lemmas.List.{append-nil}
 use Rattle.nob_demo_scripts.specs.Grammar.{header_text, IsLimits}
-use Rattle.nob_text.specs.Lines.{lines_of, bad_step_text, line_text}
+use Rattle.nob_model_text.specs.Lines.{lines_of, bad_step_text, line_text}
 use Rattle.nob_ids.specs.declared.limits.Limits.{Limits}
 use Rattle.nob_model_session.specs.declared.entry.PairEntry.{PairEntry}
 use Rattle.nob_model_session.specs.Pair.{PairFronts}

@@ -1,7 +1,7 @@
 -- How runs of scripts end before their last line.
 use Rattle.std.proofs.Common.{◌≡◌, ℕ, true, List, [], ◌∷◌, ◌++◌, ◌+◌, refl, sym, ap, subst, ◌∙◌, codes}
 use Rattle.std.proofs.lemmas.List.{append-nil}
-use Rattle.nob_text.specs.Lines.{bad_step_text}
+use Rattle.nob_model_text.specs.Lines.{bad_step_text}
 use Rattle.nob_script_text.specs.declared.ending.Ending.{Ending}
 use Rattle.nob_script_text.specs.declared.ending.Ending.TheVariants.{Judged, BadStep, OutOfMemory}
 use Rattle.nob_script_text.specs.Scripts.{AtEnd, FromLine, FromLines, FromOpening, FromNothing, FromScript, Grows, IsNoOpening, IsNoStep, last_line}

@@ -19,7 +19,7 @@ use Rattle.nob_model_journal.specs.Journals.{at, transmitted_frames, frames_of}
 use Rattle.nob_model_journal.specs.Runs.{IsMadeBy, IsOfWorld, WorldRun, frame_of}
 use Rattle.nob_model_text.specs.Events.{IsSpoken}
 use Rattle.nob_model_reading.specs.Scripts.{IsStep}
-use Rattle.nob_text.specs.Lines.{answered_text}
+use Rattle.nob_model_text.specs.Lines.{answered_text}
 use Rattle.nob_script_text.specs.Scripts.{Grows, StepMade, IsStepLine}
 use Rattle.nob_script_text.specs.Worlds as scripts
 use Rattle.nob_script_text.specs.Worlds.{delivers, does, entry_in, makes_entry, outcome_of, result_text, with_entry}

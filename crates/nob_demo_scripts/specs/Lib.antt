@@ -1,4 +1,4 @@
-pub use Rattle.nob_text.specs.Lines
+pub use Rattle.nob_model_text.specs.Lines
 pub use Rattle.nob_model_session.specs.Pair
 pub use Rattle.nob_frame.specs.Spelling
 pub mod Grammar

@@ -3,7 +3,7 @@ use Rattle.std.specs.Prelude.{◌≡◌, ◌≢◌, ℕ, ◌+◌, List, [], ◌�
 use Rattle.nob_ids.specs.declared.limits.Limits.{Limits}
 use Rattle.nob_model_session.specs.declared.entry.PairEntry.{PairEntry}
 use Rattle.nob_model_session.specs.Pair.{PairFronts, PairRun}
-use Rattle.nob_text.specs.Lines.{lines_of, line_text, answered_text, bad_step_text}
+use Rattle.nob_model_text.specs.Lines.{lines_of, line_text, answered_text, bad_step_text}
 use Rattle.nob_demo_scripts.specs.declared.step.Step.{Step}
 use Rattle.nob_demo_scripts.specs.declared.pair_script.PairEnding.{PairEnding}
 use Rattle.nob_demo_scripts.specs.declared.pair_script.PairEnding.TheVariants.{Fronts, BadStep, OutOfMemory}

@@ -1,7 +1,7 @@
 -- A script that is run on a world of spaces.
 use Rattle.std.specs.Prelude.{◌≡◌, ⊤, ℕ, true, List, codes, Result, Ok, Err}
 use Rattle.nob_model_types.specs.declared.answer.Answer.{Answer}
-use Rattle.nob_text.specs.Lines.{lines_of, bad_step_text}
+use Rattle.nob_model_text.specs.Lines.{lines_of, bad_step_text}
 use Rattle.nob_script_text.specs.declared.ending.Ending.{Ending}
 use Rattle.nob_script_text.specs.declared.ending.Ending.TheVariants.{Judged, BadStep}
 use Rattle.nob_script_text.specs.declared.ending.Ending.TheVariants as ending

@@ -3,7 +3,7 @@
 ghost use Rattle.std.specs.Prelude.{◌≡◌, ◌++◌, ◌∷◌, [], List, ℕ, false, IsTrue, IfOk, OnOk, OnErr, codes, ◌+◌, ◌<◌, ◌≤◌, ◌^◌, length};
 ghost use Rattle.nob_ids.specs.declared.limits.Limits.{Limits as LimitsOf};
 ghost use Rattle.nob_model_session.specs.declared.entry.PairEntry.{PairEntry};
-ghost use Rattle.nob_text.specs.Lines.{lines_of, bad_step_text};
+ghost use Rattle.nob_model_text.specs.Lines.{lines_of, bad_step_text};
 ghost use Rattle.nob_demo_scripts.specs.Pairs.{PairStands};
 ghost use Rattle.nob_demo_scripts.specs.PairScripts.{FromHeader, FromLines, Grows, IsNoStep, IsStepLine, MakesStep, Plays, last_line};
 
@@ -11,8 +11,8 @@ use crate::pair::Pair;
 use crate::parse::{header_of, step_of};
 use crate::step::Step;
 use crate::text::text_of;
+use nob_model_text::{first_line, push_bad_step, push_line};
 use nob_session::laws;
-use nob_text::{first_line, push_bad_step, push_line};
 use std::alloc::{AllocError, Global};
 
 /// How a script ended.

@@ -11,7 +11,7 @@ ghost use Rattle.nob_demo_scripts.specs.Grammar.{header_text, limits_text, lengt
 use crate::step::{Call, Side, Step};
 use nob_bytes::Bytes;
 use nob_ids::Limits;
-use nob_text::{bytes_of, number_of};
+use nob_model_text::{bytes_of, number_of};
 use std::alloc::{AllocError, Global};
 
 /// The step that a line spells: `None` where it spells none. Only memory fails it.

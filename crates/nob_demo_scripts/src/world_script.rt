@@ -1,7 +1,7 @@
 //! Whole scripts.
 
 ghost use Rattle.std.specs.Prelude.{◌≡◌, ◌++◌, [], true, false, IfOk, OnErr};
-ghost use Rattle.nob_text.specs.Lines.{lines_of};
+ghost use Rattle.nob_model_text.specs.Lines.{lines_of};
 ghost use Rattle.nob_ids.specs.declared.limits.Limits.{Limits as LimitsOf};
 ghost use Rattle.nob_model_reading.specs.declared.opening.Opening.{Opening as OpeningOf};
 ghost use Rattle.nob_script_text.specs.Scripts.{AreLimitsOf, FromLines, FromOpening, Grows, IsNoStep, IsOpeningLine, StepMade, last_line};
@@ -11,8 +11,8 @@ ghost use Rattle.nob_demo_scripts.specs.WorldScripts.{EndsBadly, Plays, SaysYes,
 use crate::judging::judge;
 use crate::world_step::make_step;
 use nob_model_reading::{opening_of, step_of};
+use nob_model_text::{first_line, push_bad_step, push_line};
 use nob_script_text::{Ending, limits_of};
-use nob_text::{first_line, push_bad_step, push_line};
 use nob_world::World;
 use std::alloc::{AllocError, Global};
 

@@ -6,8 +6,8 @@ ghost use Rattle.nob_script_text.specs.Scripts.{Grows, IsStepLine, StepMade};
 ghost use Rattle.nob_demo_scripts.specs.WorldScripts.{script_world, step_result_text as text_of_step};
 
 use nob_model::{Answer, WorldStep};
+use nob_model_text::push_line;
 use nob_script_text::result_text;
-use nob_text::push_line;
 use nob_world::{World, WorldError};
 use std::alloc::{AllocError, Global};
 

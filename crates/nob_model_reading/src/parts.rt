@@ -9,8 +9,7 @@ ghost use Rattle.nob_model_text.specs.Values.{rep_text};
 ghost use Rattle.nob_model_text.specs.Events.{IsRep};
 
 use nob_ids::{SpaceId, WireRep};
-use nob_model_text::{Unread, rep_numbers_at, rep_of, space_of};
-use nob_text::number_of;
+use nob_model_text::{Unread, number_of, rep_numbers_at, rep_of, space_of};
 use std::alloc::Global;
 
 /// The number that a text spells.

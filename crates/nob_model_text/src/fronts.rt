@@ -12,8 +12,8 @@ ghost use Rattle.nob_model_text.specs.Fronts as spec;
 ghost use Rattle.nob_model_text.specs.Reading.{Reads};
 
 use crate::unread::Unread;
+use crate::{bytes_of, number_of};
 use nob_ids::{SpaceId, WireRep};
-use nob_text::{bytes_of, number_of};
 use std::alloc::{AllocError, Global};
 
 /// The number at the front of a text, up to the first mark, and what is left. Only memory and a

@@ -3,8 +3,12 @@
 #![tactic(auto)]
 
 mod answer_writing;
+mod answers;
+mod bytes;
 mod event_writing;
 mod fronts;
+mod lines;
+mod number;
 mod refusal_reading;
 mod refusal_writing;
 mod unread;
@@ -12,8 +16,12 @@ mod value_reading;
 mod value_writing;
 
 pub use answer_writing::answer_text;
+pub use answers::{push_bad_step, push_line};
+pub use bytes::bytes_of;
 pub use event_writing::event_text;
 pub use fronts::{bytes_at, number_at, rep_numbers_at, rep_of, space_of};
+pub use lines::first_line;
+pub use number::number_of;
 pub use refusal_reading::refusal_of;
 pub use refusal_writing::refusal_text;
 pub use unread::Unread;

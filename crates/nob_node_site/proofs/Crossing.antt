@@ -7,7 +7,7 @@ use denote.Struct.Struct.{Struct}
 use Rattle.std.proofs.Crossing.{crosses, Vec-send}
 use Rattle.nob_keeper.proofs.Crossing.{keeper_field_sync, seat_send}
 use Rattle.nob_node_parts.proofs.Crossing.{prober_send}
-use Rattle.nob_node_jobs.proofs.Crossing.{hand_of_node_send, jobs_sync}
+use Rattle.nob_node_parts.proofs.JobsCrossing.{hand_of_node_send, jobs_sync}
 use Rattle.nob_node_parts.proofs.object.LeftObject.TheSendSync as left
 use Rattle.nob_node_parts.specs.contracts.object.LeftObject as LeftObject
 use Rattle.nob_node_parts.proofs.Crossing.{start_sync, failure_sync, transmitting_sync, collecting_sync, inboxes_sync, replies_sync, idlers_sync}

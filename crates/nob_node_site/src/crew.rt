@@ -7,8 +7,7 @@ use crate::site::Site;
 use crate::threads::{send, serve, take};
 use nob_dispatch_objects::Object;
 use nob_keeper::Seat;
-use nob_node_jobs::{Gate, Hand};
-use nob_node_parts::Kept;
+use nob_node_parts::{Gate, Hand, Kept};
 use std::sync::Wait;
 use std::thread::{self, Threads};
 

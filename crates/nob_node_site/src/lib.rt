@@ -11,9 +11,9 @@ mod threads;
 pub use config::{Config, Ends};
 pub use crew::{Crew, run_crew};
 pub use making::site_of;
-pub use nob_node_jobs::{
-    Desk, Errand, Gate, Hand, JobCalls, NodeJobs, OpenGate, Place, Placed, Remaining, Return, Shelf,
+pub use nob_node_parts::{
+    Calls, Desk, Errand, Gate, Hand, Inbox, JobCalls, Kept, LeftObject, NodeJobs, OpenGate, Outbox,
+    Place, Placed, Pulse, Remaining, Return, Shelf,
 };
-pub use nob_node_parts::{Calls, Inbox, Kept, LeftObject, Outbox, Pulse};
 pub use probing::Probing;
 pub use site::{Site, SiteParts};

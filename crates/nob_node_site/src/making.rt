@@ -16,8 +16,9 @@ use nob_dispatch_objects::{Agent, Object};
 use nob_ids::SpaceId;
 use nob_keeper::{Keeper, Space};
 use nob_link::{PutEnd, TakeEnd};
-use nob_node_jobs::{Desk, Errand, Hand, Return};
-use nob_node_parts::{Carer, Inbox, Kept, Outbox, Prober, Sender, Taker, Way};
+use nob_node_parts::{
+    Carer, Desk, Errand, Hand, Inbox, Kept, Outbox, Prober, Return, Sender, Taker, Way,
+};
 use std::alloc::Global;
 use std::sync::Mutex;
 

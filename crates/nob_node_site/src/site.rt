@@ -7,10 +7,9 @@ use nob_dispatch_objects::Object;
 use nob_ids::{CallNo, SpaceId};
 use nob_keeper::{Backlog, Dues, Keeper, KeeperError, Look, Prospects, Seat, Tally, wakes_of};
 use nob_model_types::{Answer, Event};
-use nob_node_jobs::{Desk, JobCalls, NodeJobs};
 use nob_node_parts::{
-    Calls, Carer, Collecting, Collects, Failure, Idlers, Inbox, Inboxes, Kept, Outbox, Replies,
-    Start, Transmitting, has_accepted,
+    Calls, Carer, Collecting, Collects, Desk, Failure, Idlers, Inbox, Inboxes, JobCalls, Kept,
+    NodeJobs, Outbox, Replies, Start, Transmitting, has_accepted,
 };
 use std::sync::{Mutex, Wait};
 

@@ -4,8 +4,7 @@ use crate::probing::Probing;
 use crate::site::Site;
 use nob_dispatch_objects::Object;
 use nob_keeper::Wake;
-use nob_node_jobs::{Gate, Hand, carry_out};
-use nob_node_parts::{Kept, Pace, Pulse, Sleep};
+use nob_node_parts::{Gate, Hand, Kept, Pace, Pulse, Sleep, carry_out};
 use std::sync::Wait;
 
 /// How many times running the thread that transmits again what is out sleeps shortly, while nothing
@@ -40,7 +39,7 @@ pub fn serve<B: Object, R: Wait, G: Gate>(
             site.idlers.sleep(rt, rings);
         }
     }
-    nob_node_jobs::serve(rt, site, gate, hand);
+    nob_node_parts::serve(rt, site, gate, hand);
     site.jobs.leave(rt);
 }
 

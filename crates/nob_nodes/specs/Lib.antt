@@ -7,3 +7,5 @@ pub use Rattle.nob_node.specs.declared.hold.Hold
 pub use Rattle.nob_node.specs.declared.hold.Returned
 pub use Rattle.nob_node.specs.Config
 pub mod Layouts
+pub mod Asked
+pub mod Partners

@@ -2,7 +2,7 @@
 use Rattle.std.proofs.Common.{◌≡◌, ℕ, ◌+◌, ◌<◌, List, ◌∷◌, ◌++◌, length, drop, get_or, sym, ap, arith, ◌∙◌, append_assoc}
 use Rattle.std.specs.Fmt.{decimal}
 use Rattle.nob_frame.specs.declared.frame.Frame.{Frame}
-use Rattle.nob_text.proofs.Ahead.{first_ahead}
+use Rattle.nob_model_text.proofs.Ahead.{first_ahead}
 use Rattle.nob_script_text.specs.Worlds.{numbers_text}
 
 -- one more number is written

@@ -6,7 +6,7 @@ use Rattle.nob_model_types.specs.declared.entry.WorldStep.{WorldStep}
 use Rattle.nob_model_reading.specs.declared.opening.Opening.{Opening}
 use Rattle.nob_model_reading.specs.Scripts.{opening_text, step_text, IsOpening, IsStep}
 use Rattle.nob_model_journal.specs.declared.verdict.Verdict.{Verdict}
-use Rattle.nob_text.specs.Lines.{line_text, bad_step_text}
+use Rattle.nob_model_text.specs.Lines.{line_text, bad_step_text}
 use Rattle.nob_script_text.specs.declared.ending.Ending.{Ending}
 use Rattle.nob_script_text.specs.declared.ending.Ending.TheVariants.{Judged, BadStep, OutOfMemory}
 use Rattle.nob_script_text.specs.Verdicts.{verdict_line}

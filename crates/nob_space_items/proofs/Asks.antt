@@ -31,17 +31,17 @@ use Rattle.nob_model_history.specs.Transit.{dirties, last_place}
 use Rattle.nob_model_history.proofs.Dirtying.{place_push, same_flip}
 use Rattle.nob_model.specs.Right.{own_ref}
 use Rattle.nob_space_state.specs.Parts.{State}
-use Rattle.nob_space_holds.specs.Shows.{TableShows, behind, far_state}
+use Rattle.nob_space_state.specs.Shows.{TableShows, behind, far_state}
 use Rattle.nob_space_state.specs.Stands.{Stands}
 use Rattle.nob_space_items.specs.Asking.{AsksFor, place_after}
 use Rattle.nob_space_items.specs.Fronts.{IsFront}
 use Rattle.nob_space_items.specs.Messages.{is_wanted, wanted_refs}
 use Rattle.nob_space_items.specs.Placing.{IsMessage}
 use Rattle.nob_space_items.proofs.Among.{any_of, filter_passes}
-use Rattle.nob_space_settling.proofs.Spares.{CanBeAsked, all_once}
+use Rattle.nob_space_items.proofs.Spares.{CanBeAsked, all_once}
 use Rattle.nob_model.proofs.Waiting.{all_filter}
 use Rattle.nob_space_items.proofs.Message.{all_peers, act_turns, wanted_turns, asked_turns, act_dirties, far_by, act_listed, act_bundles}
-use Rattle.nob_space_holds.proofs.Marked.{used_still}
+use Rattle.nob_space_state.proofs.Marked.{used_still}
 
 -- nobody holds what the table has nothing of
 unknown_free : (mine given : Bool) (row : Option Counts) (surrogate : Option Surrogate) (counts : Option Counts) → is_unknown (if mine then own_standing given row else far_standing surrogate counts).state ≡ true

@@ -39,9 +39,9 @@ use Rattle.nob_model.proofs.Reopening.{open_number, open_last}
 use Rattle.nob_model.proofs.Carrying.{AllOutstanding, all_outstanding}
 use Rattle.nob_space_state.specs.Parts.{State}
 use Rattle.nob_space_state.specs.Stands.{Stands}
-use Rattle.nob_space_holds.proofs.Counted.{times_both}
+use Rattle.nob_space_state.proofs.Counted.{times_both}
 use Rattle.nob_space_items.specs.Messages.{owner_count}
-use Rattle.nob_space_settling.proofs.Spares.{CanBeAsked, all_asked as dirties_asked}
+use Rattle.nob_space_items.proofs.Spares.{CanBeAsked, all_asked as dirties_asked}
 use Rattle.nob_space_items.proofs.ReadItems.{item_few}
 use Rattle.nob_space_items.proofs.Received.{times_lent}
 use Rattle.nob_space_items.proofs.Refused.{handed_low}

@@ -28,8 +28,8 @@ use Rattle.nob_model.specs.Lists.{AreRightDeeds}
 use Rattle.nob_model.proofs.Lending.{AreLent, IsAllLent, all_lent}
 use Rattle.nob_model.proofs.Made.{all_fixed, work_fixed}
 use Rattle.nob_space_state.proofs.Claiming.{times_lent}
-use Rattle.nob_space_holds.proofs.Counted.{times_both}
-use Rattle.nob_space_holds.proofs.Returned.{times_one}
+use Rattle.nob_space_state.proofs.Counted.{times_both}
+use Rattle.nob_space_state.proofs.Returned.{times_one}
 use Rattle.nob_space_items.specs.Fronts.{IsFront}
 use Rattle.nob_space_messages.specs.Waiting.{is_due, waits_for, granted_copy, granted_message, due_to, due_to_all}
 use Rattle.nob_space_items.proofs.Owners.{awaited, turned}

@@ -42,7 +42,7 @@ use Rattle.nob_model.specs.Right.{own_ref}
 use Rattle.nob_model_acting.specs.Sending.{is_gone}
 use Rattle.nob_space_state.specs.Looks as looks
 use Rattle.nob_space_state.specs.Parts.{State}
-use Rattle.nob_space_holds.specs.Shows.{far_state}
+use Rattle.nob_space_state.specs.Shows.{far_state}
 use Rattle.nob_space_state.specs.Stands.{Stands, bundle}
 use Rattle.nob_space_state.proofs.Calling.{few_refs}
 use Rattle.nob_space_state.proofs.Orderly.{orderly}

@@ -10,11 +10,11 @@ use Rattle.nob_table_rows.specs.Standings.{is_known, after_hold}
 use Rattle.nob_table.specs.Table.{Table, standing, Becomes, ChangeLeaves, hold_fault}
 use Rattle.nob_table_rows.proofs.Same.{same_laws}
 use Rattle.nob_model_history.specs.Holds.{times}
-use Rattle.nob_space_holds.specs.Holds.{one_more}
-use Rattle.nob_space_holds.specs.Shows.{TableShows}
-use Rattle.nob_space_holds.proofs.Counted.{times_both}
-use Rattle.nob_space_holds.proofs.Returned.{times_one}
-use Rattle.nob_space_holds.proofs.Shows.{one_row, shows_lent_more}
+use Rattle.nob_space_state.specs.Holds.{one_more}
+use Rattle.nob_space_state.specs.Shows.{TableShows}
+use Rattle.nob_space_state.proofs.Counted.{times_both}
+use Rattle.nob_space_state.proofs.Returned.{times_one}
+use Rattle.nob_space_state.proofs.Shows.{one_row, shows_lent_more}
 use Rattle.nob_space_items.specs.Lending.{CanLend, Lends}
 
 -- a reference that can be lent has counts that aren't full

@@ -22,3 +22,12 @@ pub mod Bounded
 pub mod Ready
 pub mod Crowds
 pub mod Obtained
+pub mod Spares
+pub mod Noting
+pub mod Fixing
+pub mod Forgetting
+pub mod Placed
+pub mod Settleable
+pub mod Resolving
+pub mod Settlements
+pub mod Numbering

@@ -54,13 +54,13 @@ use Rattle.nob_model.proofs.Premises.{front_item, in_turn, took_turns}
 use Rattle.nob_space_messages.specs.Waiting.{is_due_in}
 use Rattle.nob_space_state.specs.Parts.{State}
 use Rattle.nob_space_state.specs.Looks.{has_closed, number_with}
-use Rattle.nob_space_holds.specs.Shows.{far_state}
+use Rattle.nob_space_state.specs.Shows.{far_state}
 use Rattle.nob_space_state.specs.Stands.{Stands}
 use Rattle.nob_space_state.proofs.Told.{closed_there, number_there}
 use Rattle.nob_space_items.specs.Fronts.{IsFront}
-use Rattle.nob_space_settling.specs.Settling.{is_denied}
-use Rattle.nob_space_settling.proofs.Resolving.{denied_far}
-use Rattle.nob_space_settling.proofs.Spares.{granted_far}
+use Rattle.nob_space_items.specs.Settling.{is_denied}
+use Rattle.nob_space_items.proofs.Resolving.{denied_far}
+use Rattle.nob_space_items.proofs.Spares.{granted_far}
 use Rattle.nob_space_items.specs.Messages.{is_wanted, wanted_refs, new_loan, new_copies}
 use Rattle.nob_space_items.specs.Placing.{IsMessage}
 use Rattle.nob_space_items.proofs.Among.{any_of, filter_passes}

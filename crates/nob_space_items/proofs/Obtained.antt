@@ -28,7 +28,7 @@ use Rattle.nob_model_acting.specs.Acting.{act_refusal}
 use Rattle.nob_model.specs.Lists.{IsRightDeed}
 use Rattle.nob_model.specs.Right.{own_ref}
 use Rattle.nob_space_state.specs.Parts.{State}
-use Rattle.nob_space_holds.specs.Shows.{TableShows}
+use Rattle.nob_space_state.specs.Shows.{TableShows}
 use Rattle.nob_space_state.specs.Stands.{Stands, AreAwaited}
 use Rattle.nob_space_items.specs.Fronts.{IsFront}
 use Rattle.nob_space_messages.specs.Waiting.{granted_message, due_to_all, is_awaited, is_due_in}

@@ -44,18 +44,18 @@ use Rattle.nob_model_acting.specs.Acting.{act_refusal, fault_of}
 use Rattle.nob_model.specs.Right.{own_ref}
 use Rattle.nob_model.proofs.Made.{loans_made}
 use Rattle.nob_space_state.specs.Parts.{State}
-use Rattle.nob_space_holds.specs.Shows.{TableShows, behind, far_state}
+use Rattle.nob_space_state.specs.Shows.{TableShows, behind, far_state}
 use Rattle.nob_space_messages.specs.Waiting.{is_awaited}
 use Rattle.nob_space_state.specs.Stands.{Stands, AreAwaited, bundle}
 use Rattle.nob_space_state.proofs.Awaited.{same_lost}
-use Rattle.nob_space_holds.proofs.Shows.{one_row}
+use Rattle.nob_space_state.proofs.Shows.{one_row}
 use Rattle.nob_space_items.specs.Fronts.{IsFront}
 use Rattle.nob_space_items.specs.Judging.{awaits_answer}
 use Rattle.nob_space_items.proofs.Judged.{awaits_there}
 use Rattle.nob_space_items.proofs.Lost.{far_lost, refused_awaited}
 use Rattle.nob_space_items.proofs.Noted.{bundles_stay, fault_none, gives_none, listed_is, not_false}
 use Rattle.nob_space_items.proofs.Taken.{act_is, front_is, ends_taken, note_dirties, note_loans}
-use Rattle.nob_space_holds.proofs.Marked.{used_still}
+use Rattle.nob_space_state.proofs.Marked.{used_still}
 
 -- the state of a reference that its owner answered so
 abbrev pub answered_state : OwnerAnswer → TableState

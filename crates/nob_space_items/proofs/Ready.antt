@@ -65,8 +65,8 @@ use Rattle.nob_space_items.specs.Messages.{is_wanted, wanted_refs, owner_count, 
 use Rattle.nob_space_items.specs.Placing.{IsMessage}
 use Rattle.nob_space_items.specs.Receiving.{HasFront, CanReceive, Receives}
 use Rattle.nob_space_items.proofs.Among.{any_of, filter_passes}
-use Rattle.nob_space_settling.specs.Settling.{is_lost_here}
-use Rattle.nob_space_settling.proofs.Spares.{CanBeAsked, all_append}
+use Rattle.nob_space_items.specs.Settling.{is_lost_here}
+use Rattle.nob_space_items.proofs.Spares.{CanBeAsked, all_append}
 use Rattle.nob_space_items.proofs.Asks.{all_asked, wanted_unknown}
 use Rattle.nob_space_items.proofs.Bounded.{filter_short, dirties_low, message_lends, lent_low}
 use Rattle.nob_space_items.proofs.Lost.{message_new}

@@ -31,11 +31,11 @@ use Rattle.nob_model_history.specs.Ends.{calls_at, items_to, with_sends}
 use Rattle.nob_model_history.specs.Holds.{hand, times, lent_in, loans_of}
 use Rattle.nob_model.specs.Lists.{IsRightDeed}
 use Rattle.nob_space_state.specs.Parts.{State}
-use Rattle.nob_space_holds.specs.Shows.{TableStands}
+use Rattle.nob_space_state.specs.Shows.{TableStands}
 use Rattle.nob_space_state.specs.Stands.{Stands, EndsStand, AreAwaited, bundle}
 use Rattle.nob_space_state.proofs.Ends.{end_there, ends_changed}
-use Rattle.nob_space_holds.proofs.Counted.{times_both}
-use Rattle.nob_space_holds.proofs.Taking.{shows_same}
+use Rattle.nob_space_state.proofs.Counted.{times_both}
+use Rattle.nob_space_state.proofs.Taking.{shows_same}
 use Rattle.nob_space_items.specs.Fronts.{IsFront}
 use Rattle.nob_space_items.specs.Messages.{wanted_refs}
 use Rattle.nob_space_items.specs.Placing.{IsMessage}

@@ -47,14 +47,14 @@ use Rattle.nob_model.specs.Laws.{AreRightCalls}
 use Rattle.nob_model.proofs.Calling.{calls_law}
 use Rattle.nob_space_state.specs.Parts.{State}
 use Rattle.nob_space_state.specs.Looks.{has_closed}
-use Rattle.nob_space_holds.specs.Shows.{far_state}
+use Rattle.nob_space_state.specs.Shows.{far_state}
 use Rattle.nob_space_state.specs.Stands.{Stands}
 use Rattle.nob_space_state.proofs.Calling.{end_of_peer}
 use Rattle.nob_space_state.proofs.Rows.{distinct_filtered}
 use Rattle.nob_space_state.proofs.Told.{closed_there}
 use Rattle.nob_space_items.specs.Messages.{is_wanted, wanted_refs, owner_count, has_free, has_numbers_for, message_refusal}
 use Rattle.nob_space_items.proofs.Among.{any_of, any_last, last_distinct, filter_passes}
-use Rattle.nob_space_settling.proofs.Spares.{CanBeAsked, all_asked as dirties_asked, all_once}
+use Rattle.nob_space_items.proofs.Spares.{CanBeAsked, all_asked as dirties_asked, all_once}
 
 -- ---- numbers
 

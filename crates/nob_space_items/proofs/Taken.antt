@@ -46,12 +46,12 @@ use Rattle.nob_model.specs.Lists.{IsRightDeed, AreRightDeeds}
 use Rattle.nob_model.proofs.Made.{loans_made}
 use Rattle.nob_model.proofs.Premises.{front_item, in_turn}
 use Rattle.nob_space_state.specs.Parts.{State}
-use Rattle.nob_space_holds.specs.Shows.{TableStands, far_state, AreUsed}
+use Rattle.nob_space_state.specs.Shows.{TableStands, far_state, AreUsed}
 use Rattle.nob_space_state.specs.Stands.{Stands, EndsStand, PinsStand}
 use Rattle.nob_space_state.proofs.Awaited.{same_lost}
 use Rattle.nob_space_state.proofs.Ends.{end_there, ends_changed}
 use Rattle.nob_space_state.specs.Looks.{HaveUsers}
-use Rattle.nob_space_holds.proofs.Marked.{none_kept, shows_unmarked, shows_marked}
+use Rattle.nob_space_state.proofs.Marked.{none_kept, shows_unmarked, shows_marked}
 use Rattle.nob_space_state.proofs.Kept.{used_of}
 use Rattle.nob_space_items.specs.Fronts.{IsFront}
 

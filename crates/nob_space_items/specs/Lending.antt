@@ -6,7 +6,7 @@ use Rattle.nob_table_rows.specs.Standings.{is_known}
 use Rattle.nob_table.specs.Table.{Table, standing}
 use Rattle.nob_model_history.specs.declared.history.History.{History}
 use Rattle.nob_model_history.specs.Holds.{times}
-use Rattle.nob_space_holds.specs.Shows.{TableShows}
+use Rattle.nob_space_state.specs.Shows.{TableShows}
 
 -- so many loans of a reference can be counted and no more
 abbrev pub most_lent : ℕ

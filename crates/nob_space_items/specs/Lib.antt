@@ -8,3 +8,5 @@ pub mod Placing
 pub mod Growing
 pub mod Receiving
 pub mod Acts
+pub mod Cleaning
+pub mod Settling

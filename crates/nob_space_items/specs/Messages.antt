@@ -17,7 +17,7 @@ use Rattle.nob_model_work.specs.Gifts.{once}
 use Rattle.nob_model_acting.specs.Acting.{messages, most_messages, most_surrogates}
 use Rattle.nob_space_state.specs.Parts.{State}
 use Rattle.nob_space_state.specs.Looks.{end_with, has_closed}
-use Rattle.nob_space_settling.specs.Settling.{is_lost_here}
+use Rattle.nob_space_items.specs.Settling.{is_lost_here}
 
 -- whether a reference gets a Dirty: its owner is a peer whose session is open here, and it has no surrogate
 abbrev pub is_wanted : (s n : ℕ) → State → WireRep → Bool

@@ -6,11 +6,11 @@ ghost use Rattle.nob_item.specs.Kinds.{counted_in};
 ghost use Rattle.nob_space_state.specs.Parts.{state_of};
 ghost use Rattle.nob_space_items.specs.Messages as specs;
 
+use crate::is_lost;
 use nob_ids::WireRep;
 use nob_item::{Item, counted_refs};
 use nob_model::{Loan, RefCopy};
 use nob_model_types::List;
-use nob_space_settling::is_lost;
 use nob_space_state::Parts;
 use nob_table::State;
 use std::alloc::{AllocError, Global};

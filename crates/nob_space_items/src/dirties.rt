@@ -10,7 +10,7 @@ use nob_ids::WireRep;
 use nob_item::Item;
 use nob_model::Kind;
 use nob_session::Session;
-use nob_space_holds::{encode_note, send_reserved};
+use nob_space_state::{encode_note, send_reserved};
 use nob_table::ObjectTable;
 use std::alloc::{AllocError, Global};
 use std::marker::Model;

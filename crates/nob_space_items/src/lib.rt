@@ -2,6 +2,7 @@
 #![tactic(auto)]
 
 mod acting;
+mod cleaning;
 mod copies;
 mod dirties;
 mod faults;
@@ -10,9 +11,13 @@ mod grants;
 mod growing;
 mod loans;
 mod messages;
+mod next;
 mod notes;
 mod placing;
 mod receiving;
+mod settling;
 
 pub use acting::{ActResult, act};
-pub use nob_space_settling::{SettledItem, can_clean, can_settle, clean, settle};
+pub use cleaning::clean;
+pub use next::{can_clean, can_settle};
+pub use settling::{SettledItem, is_lost, settle};

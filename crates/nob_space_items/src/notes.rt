@@ -28,8 +28,7 @@ use nob_item::Item;
 use nob_model::Kind;
 use nob_pins::Settled;
 use nob_session::Session;
-use nob_space_holds::{encode_note, send_reserved};
-use nob_space_state::{Parts, SpaceError, settle_pins, unlist};
+use nob_space_state::{Parts, SpaceError, encode_note, send_reserved, settle_pins, unlist};
 use nob_table::State;
 use std::alloc::{AllocError, Global};
 

@@ -40,7 +40,7 @@ use Rattle.nob_model_lives.specs.Births.{Birth, IsBorn, IsInRange, IsNewBirth, I
 use Rattle.nob_model_lives.proofs.Begin.{new_law}
 use Rattle.nob_model_lives.proofs.Peers.{strangers_uncalled}
 use Rattle.nob_space_messages.specs.Waiting.{is_due_in}
-use Rattle.nob_space_holds.specs.Shows.{behind, far_state}
+use Rattle.nob_space_state.specs.Shows.{behind, far_state}
 use Rattle.nob_space_state.specs.Parts.{State}
 use Rattle.nob_space_state.specs.Stands.{AreBegun, EndsStand, Stands, bundle, first_session}
 

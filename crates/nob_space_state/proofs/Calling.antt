@@ -60,11 +60,11 @@ use Rattle.nob_space_calls.specs.Calls.{IsAbove}
 use Rattle.nob_space_state.specs.Parts.{State}
 use Rattle.nob_space_state.specs.Looks as looks
 use Rattle.nob_space_state.specs.Looks.{end_with, has_closed, has_holds}
-use Rattle.nob_space_holds.specs.Pins.{AddsPins}
+use Rattle.nob_space_state.specs.Pins.{AddsPins}
 use Rattle.nob_space_state.specs.Sending.{ref_refusal, refs_refusal, value_refusal, next_refusal, send_refusal, has_last_call, call_refusal}
 use Rattle.nob_model.specs.Lists.{IsRightDeed}
 use Rattle.nob_space_state.proofs.Orderly.{orderly}
-use Rattle.nob_space_holds.specs.Shows.{TableStands}
+use Rattle.nob_space_state.specs.Shows.{TableStands}
 use Rattle.nob_space_state.specs.Stands.{Stands}
 use Rattle.nob_model.proofs.Made.{loans_made}
 use Rattle.nob_space_state.proofs.Ends.{end_there, ends_changed, ends_kept}

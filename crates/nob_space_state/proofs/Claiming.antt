@@ -39,7 +39,7 @@ use Rattle.nob_space_state.proofs.Firsts.{narrower_first, times_without}
 use Rattle.nob_model.proofs.Accepted.{found_passes}
 use Rattle.nob_model.proofs.Carrying.{all_found, all_without}
 use Rattle.nob_model.proofs.Made.{AreFixed, work_fixed, fixed_stays}
-use Rattle.nob_space_holds.proofs.Counted.{times_both}
+use Rattle.nob_space_state.proofs.Counted.{times_both}
 
 mutual
   -- a tree is the same as itself

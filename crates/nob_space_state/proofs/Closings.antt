@@ -56,20 +56,20 @@ use Rattle.nob_model.proofs.Made.{AreFixed, all_fixed, fixed_map, work_fixed, fi
 use Rattle.nob_model.proofs.Waiting.{all_weaker}
 use Rattle.nob_model.specs.Lists.{IsRightDeed}
 use Rattle.nob_model.specs.Right.{own_ref, right_closing}
-use Rattle.nob_space_holds.specs.Returns.{is_from, lent_from}
+use Rattle.nob_space_state.specs.Returns.{is_from, lent_from}
 use Rattle.nob_space_state.specs.Closing.{lent_in_vain, LosesOwner, TableLoses, ClosesDown}
 use Rattle.nob_space_state.specs.Looks.{has_closed, HaveUsers}
 use Rattle.nob_space_state.specs.Parts.{State, with_sessions}
-use Rattle.nob_space_holds.specs.Returns.{HasLent}
-use Rattle.nob_space_holds.specs.Shows.{TableShows, TableStands, AreUsed, behind, far_state}
+use Rattle.nob_space_state.specs.Returns.{HasLent}
+use Rattle.nob_space_state.specs.Shows.{TableShows, TableStands, AreUsed, behind, far_state}
 use Rattle.nob_space_state.specs.Stands.{Stands, EndsStand, PinsStand, AreAwaited, bundle}
 use Rattle.nob_space_state.proofs.Awaited.{closing_awaited}
 use Rattle.nob_space_state.proofs.Claiming.{times_lent}
 use Rattle.nob_space_state.proofs.Ends.{end_there, ends_changed}
 use Rattle.nob_space_state.proofs.Finishing.{none_of, counted_append, counted_copies, counted_target, state_sound}
-use Rattle.nob_space_holds.proofs.Counted.{times_both}
+use Rattle.nob_space_state.proofs.Counted.{times_both}
 use Rattle.nob_space_state.proofs.Running.{IsSound, AreSound, all_filter}
-use Rattle.nob_space_holds.proofs.Shows.{no_holds}
+use Rattle.nob_space_state.proofs.Shows.{no_holds}
 use Rattle.nob_space_state.proofs.Told.{closed_there}
 use Rattle.nob_model_history.proofs.Inbox.{open_calls}
 use Rattle.nob_space_state.proofs.Kept.{used_of, users_there}

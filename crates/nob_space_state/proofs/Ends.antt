@@ -42,11 +42,11 @@ use Rattle.nob_model_history.specs.Transit as transit
 use Rattle.nob_model.specs.Right.{calls_made, jobs_made, right_frames}
 use Rattle.nob_space_state.specs.Parts.{State, with_sessions}
 use Rattle.nob_model.specs.Lists.{IsRightDeed}
-use Rattle.nob_space_holds.specs.Shows.{far_state}
+use Rattle.nob_space_state.specs.Shows.{far_state}
 use Rattle.nob_space_state.specs.Stands.{Stands, EndsStand, bundle}
 use Rattle.nob_space_state.proofs.Awaited.{same_lost, still_awaited}
 use Rattle.nob_model.proofs.Made.{loans_made}
-use Rattle.nob_space_holds.proofs.Marked.{used_still}
+use Rattle.nob_space_state.proofs.Marked.{used_still}
 
 -- one element changes
 pub set_here : {X : Type 0} (xs : List X) (at : ℕ) (y z : X) → slice_get (set xs at y) at ≡ Some z → z ≡ y

@@ -40,11 +40,11 @@ use Rattle.nob_space_state.specs.Parts.{State, with_table}
 use Rattle.nob_space_state.specs.Stands.{Stands}
 use Rattle.nob_model.specs.Lists.{IsRightDeed}
 use Rattle.nob_space_state.proofs.Orderly.{orderly}
-use Rattle.nob_space_holds.proofs.Counted.{times_more}
-use Rattle.nob_space_holds.proofs.Shows.{no_holds}
+use Rattle.nob_space_state.proofs.Counted.{times_more}
+use Rattle.nob_space_state.proofs.Shows.{no_holds}
 use Rattle.nob_space_state.proofs.Listed.{nobody_listed, somebody_listed}
 use Rattle.nob_space_state.proofs.Pinned.{pins_there}
-use Rattle.nob_space_holds.proofs.Marked.{same_pins, used_still, used_then}
+use Rattle.nob_space_state.proofs.Marked.{same_pins, used_still, used_then}
 use Rattle.nob_space_state.proofs.Quiet.{IsQuiet, export_is_quiet, withdraw_is_quiet}
 use Rattle.nob_space_state.proofs.Rows.{live_count, own_row, own_there, differ}
 use Rattle.nob_space_state.proofs.Stood.{stands_quiet}

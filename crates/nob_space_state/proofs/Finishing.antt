@@ -41,15 +41,15 @@ use Rattle.nob_model.specs.Right.{right_finish, finish_of}
 use Rattle.nob_model_acting.specs.Sending.{◌or_else◌, unless}
 use Rattle.nob_space_state.specs.Parts.{State}
 use Rattle.nob_space_state.specs.Looks.{has_ended}
-use Rattle.nob_space_holds.specs.Returns.{HasLent, GivesBack}
-use Rattle.nob_space_holds.specs.Pins.{AddsPins}
+use Rattle.nob_space_state.specs.Returns.{HasLent, GivesBack}
+use Rattle.nob_space_state.specs.Pins.{AddsPins}
 use Rattle.nob_space_state.specs.Sending.{value_refusal, send_refusal, reply_refusal}
 use Rattle.nob_model.specs.Lists.{IsRightDeed}
-use Rattle.nob_space_holds.specs.Shows.{TableShows, TableStands}
+use Rattle.nob_space_state.specs.Shows.{TableShows, TableStands}
 use Rattle.nob_space_state.specs.Stands.{Stands}
 use Rattle.nob_space_state.proofs.Orderly.{orderly}
 use Rattle.nob_space_state.proofs.Calling.{value_there, send_there, pickle_there, or_none, stands_sent}
-use Rattle.nob_space_holds.proofs.Counted.{times_both}
+use Rattle.nob_space_state.proofs.Counted.{times_both}
 use Rattle.nob_model.proofs.Made.{loans_made}
 use Rattle.nob_space_state.proofs.Running.{IsCall, IsSoundRun, AreSound, HasCallNumber, all_filter, all_found, work_sound}
 use Rattle.nob_space_state.proofs.Sent.{HandsOne, shows_handed}

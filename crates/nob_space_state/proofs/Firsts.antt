@@ -4,7 +4,7 @@ use Rattle.std.proofs.lemmas.Option.{none-some}
 use Rattle.nob_ids.specs.declared.wire_rep.WireRep.{WireRep}
 use Rattle.nob_model_work.specs.Work.{without_first}
 use Rattle.nob_model_history.specs.Holds.{times}
-use Rattle.nob_space_holds.proofs.Counted.{times_both}
+use Rattle.nob_space_state.proofs.Counted.{times_both}
 use Rattle.nob_space_state.proofs.Rows.{differ}
 
 pub some_same : {A : Type 0} {x y : A} → Some x ≡ Some y → x ≡ y

@@ -20,10 +20,10 @@ use Rattle.nob_model.specs.Right.{right_dup, right_release, greatest_hand}
 use Rattle.nob_model_acting.specs.Sending.{◌or_else◌, refuse_if, unless}
 use Rattle.nob_space_state.specs.Judging.{dup_refusal, release_refusal}
 use Rattle.nob_space_state.specs.Looks.{has_holds, is_gone, is_cut}
-use Rattle.nob_space_holds.specs.Holds.{one_more, one_fewer}
+use Rattle.nob_space_state.specs.Holds.{one_more, one_fewer}
 use Rattle.nob_space_state.specs.Parts.{State, with_table}
-use Rattle.nob_space_holds.specs.Shows.{TableShows}
-use Rattle.nob_space_holds.proofs.Counted.{held_known, times_more}
+use Rattle.nob_space_state.specs.Shows.{TableShows}
+use Rattle.nob_space_state.proofs.Counted.{held_known, times_more}
 use Rattle.nob_space_state.specs.Stands.{Stands}
 use Rattle.nob_model.specs.Lists.{IsRightDeed}
 use Rattle.nob_space_state.proofs.Orderly.{orderly}

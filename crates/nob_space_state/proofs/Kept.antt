@@ -12,8 +12,8 @@ use Rattle.nob_model_types.specs.declared.deed.Deed.{Deed}
 use Rattle.nob_model_history.specs.declared.history.History.{History}
 use Rattle.nob_model_history.specs.Histories.{history_of}
 use Rattle.nob_model_history.specs.Listing.{is_listed}
-use Rattle.nob_space_holds.specs.Shows.{AreUsed}
-use Rattle.nob_space_holds.proofs.Marked.{unmarked, shows_marked, shows_unmarked}
+use Rattle.nob_space_state.specs.Shows.{AreUsed}
+use Rattle.nob_space_state.proofs.Marked.{unmarked, shows_marked, shows_unmarked}
 use Rattle.nob_space_state.specs.Looks.{has_clients, is_used, IsUsed, HaveUsers}
 use Rattle.nob_space_state.specs.Parts.{State, with_table}
 use Rattle.nob_space_state.specs.Stands.{Stands, PinsStand}

@@ -8,7 +8,7 @@ use Rattle.nob_dirty.specs.declared.sets.Listing.{Listing}
 use Rattle.nob_dirty.specs.Sets.{lists, AreIndexes, Leaves, LeavesAll}
 use Rattle.nob_pins.specs.Bundles.{Adds, Pinned, bundle_of, count_of, times}
 use Rattle.nob_pins.proofs.Callers.{among, count_taken}
-use Rattle.nob_space_holds.specs.Pins.{AddsPins}
+use Rattle.nob_space_state.specs.Pins.{AddsPins}
 use Rattle.nob_table.specs.Table.{Table, is_kept, Marked}
 use Rattle.nob_space_state.specs.Looks.{is_used, HaveUsers, IsAmong, KeepsMore, LetsGo}
 use Rattle.nob_space_state.proofs.Kept.{used_is}

@@ -28,3 +28,8 @@ pub mod Unpinned
 pub mod Nexts
 pub mod Numbered
 pub mod Tallied
+pub mod Counted
+pub mod Shows
+pub mod Returned
+pub mod Taking
+pub mod Marked

@@ -51,8 +51,8 @@ use Rattle.nob_model.specs.Lists.{IsRightDeed}
 use Rattle.nob_model.specs.Opening.{is_owned_by, holds_any_of, still_held, next_number, right_open}
 use Rattle.nob_model.specs.Opening as opening
 use Rattle.nob_space_messages.specs.Waiting.{carries_any_of, waits_for, due_to_all, is_awaited}
-use Rattle.nob_space_holds.specs.Shows.{TableStands, far_state}
-use Rattle.nob_space_holds.proofs.Marked.{used_still}
+use Rattle.nob_space_state.specs.Shows.{TableStands, far_state}
+use Rattle.nob_space_state.proofs.Marked.{used_still}
 use Rattle.nob_space_state.specs.Looks.{has_closed}
 use Rattle.nob_space_state.specs.Opening.{next_of}
 use Rattle.nob_space_state.specs.Parts.{State, with_sessions}
@@ -63,7 +63,7 @@ use Rattle.nob_space_state.proofs.Finishing.{none_of, counted_append}
 use Rattle.nob_space_state.proofs.Pinned.{pins_there}
 use Rattle.nob_space_state.proofs.Rows.{differ}
 use Rattle.nob_space_state.proofs.Running.{filter_counted}
-use Rattle.nob_space_holds.proofs.Counted.{times_both}
+use Rattle.nob_space_state.proofs.Counted.{times_both}
 use Rattle.nob_space_state.proofs.Told.{closed_there, held_there}
 
 -- ---- lists

@@ -15,7 +15,7 @@ use Rattle.nob_model_history.specs.Holds.{times}
 use Rattle.nob_model_history.specs.Transit as transit
 use Rattle.nob_space_state.specs.Parts.{State}
 use Rattle.nob_space_state.specs.Stands.{Stands, PinsStand, bundle}
-use Rattle.nob_space_holds.proofs.Counted.{times_both}
+use Rattle.nob_space_state.proofs.Counted.{times_both}
 
 -- the same in whichever order two references are compared
 times_same : (rep : WireRep) (reps : List WireRep) → pins.times rep reps ≡ times rep reps

@@ -43,15 +43,15 @@ use Rattle.nob_model.proofs.Lending.{IsAllLent, all_lent}
 use Rattle.nob_model.proofs.Made.{AreFixed, work_fixed, fixed_stays}
 use Rattle.nob_model.proofs.Replying.{answered_once}
 use Rattle.nob_space_state.specs.Parts.{State}
-use Rattle.nob_space_holds.specs.Shows.{TableShows}
+use Rattle.nob_space_state.specs.Shows.{TableShows}
 use Rattle.nob_space_state.specs.Stands.{Stands}
-use Rattle.nob_space_holds.specs.TakingOver.{reps_of, CanTake, with_more, with_fewer}
+use Rattle.nob_space_state.specs.TakingOver.{reps_of, CanTake, with_more, with_fewer}
 use Rattle.nob_space_calls.specs.Calls.{is_reply}
 use Rattle.nob_space_state.specs.Taking.{is_full, is_overfull, answer_of_item, answer_of_reply, answer_of_call, take_answer}
 use Rattle.nob_space_state.proofs.Claiming.{times_lent}
 use Rattle.nob_space_state.proofs.Firsts.{times_without}
 use Rattle.nob_space_state.proofs.Orderly.{orderly}
-use Rattle.nob_space_holds.proofs.Counted.{times_both}
+use Rattle.nob_space_state.proofs.Counted.{times_both}
 use Rattle.nob_space_state.proofs.Rows.{differ}
 
 -- ---- counted references

@@ -21,8 +21,8 @@ use Rattle.nob_model_history.specs.declared.history.History.{History}
 use Rattle.nob_model_history.specs.Transit as transit
 use Rattle.nob_model.specs.Right.{own_ref}
 use Rattle.nob_table_rows.specs.Counts as counts
-use Rattle.nob_space_holds.specs.Shows.{TableShows, AreUsed, behind, far_state}
-use Rattle.nob_space_holds.proofs.Shows.{one_row}
+use Rattle.nob_space_state.specs.Shows.{TableShows, AreUsed, behind, far_state}
+use Rattle.nob_space_state.proofs.Shows.{one_row}
 use Rattle.nob_space_state.proofs.Told.{own_is}
 
 -- an own object is no surrogate, and without counts where it isn't live

@@ -41,15 +41,15 @@ use Rattle.nob_model_history.proofs.Pinning.{bundles_kept, bundle_sent, new_pins
 use Rattle.nob_model_history.proofs.Sending.{new_items}
 use Rattle.nob_model.specs.Right.{own_ref, calls_made, jobs_made}
 use Rattle.nob_space_state.specs.Parts.{State}
-use Rattle.nob_space_holds.specs.Pins.{AddsPins}
+use Rattle.nob_space_state.specs.Pins.{AddsPins}
 use Rattle.nob_model.specs.Lists.{IsRightDeed}
-use Rattle.nob_space_holds.specs.Shows.{TableShows, TableStands, far_state}
+use Rattle.nob_space_state.specs.Shows.{TableShows, TableStands, far_state}
 use Rattle.nob_space_state.specs.Stands.{Stands, EndsStand, PinsStand, AreAwaited, bundle}
 use Rattle.nob_model_types.specs.declared.message.Message.{Message}
 use Rattle.nob_space_state.proofs.Awaited.{same_lost, still_awaited}
 use Rattle.nob_space_state.proofs.Orderly.{orderly}
-use Rattle.nob_space_holds.proofs.Marked.{used_then}
-use Rattle.nob_space_holds.proofs.Counted.{times_both}
+use Rattle.nob_space_state.proofs.Marked.{used_then}
+use Rattle.nob_space_state.proofs.Counted.{times_both}
 
 -- an item that goes to a peer
 abbrev pub gift_to : ℕ → Item → Gift

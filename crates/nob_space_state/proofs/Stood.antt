@@ -16,11 +16,11 @@ use Rattle.nob_model_history.specs.Histories.{history_of}
 use Rattle.nob_model_history.specs.Transit as transit
 use Rattle.nob_model.specs.Lists.{IsRightDeed}
 use Rattle.nob_space_state.specs.Parts.{State, with_table}
-use Rattle.nob_space_holds.specs.Shows.{TableShows, TableStands, far_state}
+use Rattle.nob_space_state.specs.Shows.{TableShows, TableStands, far_state}
 use Rattle.nob_space_state.specs.Stands.{Stands, bundle}
 use Rattle.nob_space_state.proofs.Awaited.{same_lost, still_awaited}
 use Rattle.nob_space_state.proofs.Quiet.{IsQuiet}
-use Rattle.nob_space_holds.proofs.Marked.{used_still}
+use Rattle.nob_space_state.proofs.Marked.{used_still}
 
 module _ {s n : ℕ} {deed : Deed} {D : List Deed} (quiet : IsQuiet s n deed D) where
   -- what a table shows of a history it shows of one with a quiet deed more that changes no object

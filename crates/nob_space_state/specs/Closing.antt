@@ -26,7 +26,7 @@ use Rattle.nob_space_messages.specs.Waiting.{is_awaited}
 use Rattle.nob_space_state.specs.Looks.{HaveUsers}
 use Rattle.nob_space_state.specs.declared.parts.Parts.{Parts}
 use Rattle.nob_space_state.specs.Parts.{State}
-use Rattle.nob_space_holds.specs.Returns.{GivesBack, lent_from}
+use Rattle.nob_space_state.specs.Returns.{GivesBack, lent_from}
 use Rattle.nob_space_state.specs.Stands.{StandFor}
 
 -- what the messages from p that wait and the ready jobs from p have lent

@@ -11,3 +11,8 @@ pub mod Closing
 pub mod Dues
 pub mod Opening
 pub mod Births
+pub mod Holds
+pub mod Shows
+pub mod Returns
+pub mod TakingOver
+pub mod Pins

@@ -26,7 +26,7 @@ use Rattle.nob_model_history.specs.Listing.{is_listed}
 use Rattle.nob_model.specs.Right.{calls_made, jobs_made}
 use Rattle.nob_model.specs.Lists.{AreRightDeeds}
 use Rattle.nob_space_messages.specs.Waiting.{is_awaited, is_due_in}
-use Rattle.nob_space_holds.specs.Shows.{TableStands}
+use Rattle.nob_space_state.specs.Shows.{TableStands}
 use Rattle.nob_space_state.specs.declared.error.SpaceError.{SpaceError}
 use Rattle.nob_space_state.specs.declared.error.SpaceError.TheVariants as errors
 use Rattle.nob_space_state.specs.declared.parts.Parts.{Parts}

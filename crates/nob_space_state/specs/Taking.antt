@@ -18,7 +18,7 @@ use Rattle.nob_model_history.specs.Holds.{times}
 use Rattle.nob_model_acting.specs.Sending.{refuse_if, unless}
 use Rattle.nob_model.specs.Right.{greatest_hand, answer_of_stage}
 use Rattle.nob_space_calls.specs.Calls.{is_reply}
-use Rattle.nob_space_holds.specs.TakingOver.{reps_of}
+use Rattle.nob_space_state.specs.TakingOver.{reps_of}
 use Rattle.nob_space_state.specs.declared.take.CallResult.{CallResult}
 use Rattle.nob_space_state.specs.declared.take.CallResult.TheVariants as results
 use Rattle.nob_space_state.specs.Parts.{State}

@@ -15,13 +15,13 @@ ghost use Rattle.nob_space_state.specs.Stands.{StandFor, IsState, Keeps, Did, An
 use crate::error::SpaceError;
 use crate::listings::keep_all;
 use crate::parts::Parts;
+use crate::send_pinned;
 use nob_ids::{CallNo, SpaceId, WireRep};
 use nob_item::{ItemError, encode_call};
 use nob_model::right::{LAST_NUMBER, MOST_CALLS};
 use nob_model::{Kind, OwnCall, Refusal, Stage};
 use nob_model_acting::sending::counted;
 use nob_pickle::Value;
-use nob_space_holds::send_pinned;
 use std::alloc::Global;
 
 impl Parts {

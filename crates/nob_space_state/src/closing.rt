@@ -11,15 +11,15 @@ ghost use Rattle.nob_model.specs.Right as right;
 ghost use Rattle.nob_space_state.specs.Closing.{lent_in_vain, ClosesDown, Closes};
 ghost use Rattle.nob_space_state.specs.Looks.{has_closed};
 ghost use Rattle.nob_space_state.specs.Parts.{state_of};
-ghost use Rattle.nob_space_holds.specs.Returns.{HasLent};
+ghost use Rattle.nob_space_state.specs.Returns.{HasLent};
 ghost use Rattle.nob_space_state.specs.Stands.{StandFor, IsState, Keeps, Did, Answers, history_for};
 
 use crate::listings::{close_pins, unlist_all};
 use crate::parts::Parts;
+use crate::{throw_ready_away, throw_waiting_away};
 use nob_ids::{Reason, SpaceId};
 use nob_model::Refusal;
 use nob_session::Closed;
-use nob_space_holds::{throw_ready_away, throw_waiting_away};
 
 impl Parts {
     // What the closing of a session leaves of the parts: messages that wait and ready jobs from the

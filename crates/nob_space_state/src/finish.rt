@@ -17,12 +17,12 @@ ghost use Rattle.nob_space_state.specs.Stands.{StandFor, IsState, Keeps, Did, An
 use crate::error::SpaceError;
 use crate::listings::keep_all;
 use crate::parts::Parts;
+use crate::{end_job, send_pinned};
 use nob_ids::{JobNo, SpaceId};
 use nob_item::{Item, ItemError, encode_reply};
 use nob_model::{Kind, Outcome, Refusal};
 use nob_model_acting::sending::counted;
 use nob_pickle::Value;
-use nob_space_holds::{end_job, send_pinned};
 use std::alloc::Global;
 
 /// What became of the reply to a job that was ended.

@@ -10,15 +10,15 @@ ghost use Rattle.nob_model.specs.Right as right;
 ghost use Rattle.nob_model.specs.Next.{reply_ready};
 ghost use Rattle.nob_space_state.specs.Parts.{state_of};
 ghost use Rattle.nob_space_state.specs.Stands.{StandFor, IsState, Keeps, Did, Answers, history_for};
-ghost use Rattle.nob_space_holds.specs.TakingOver.{reps_of};
+ghost use Rattle.nob_space_state.specs.TakingOver.{reps_of};
 ghost use Rattle.nob_space_state.specs.Taking.{is_full, take_answer, answer_of, deed_of};
 
 use crate::parts::Parts;
+use crate::{take_over, times};
 use nob_ids::{CallNo, WireRep};
 use nob_item::Item;
 use nob_model::{Message, RefCopy, Refusal, Stage};
 use nob_pickle::Value;
-use nob_space_holds::{take_over, times};
 use std::alloc::AllocError;
 
 // The greatest hand.

@@ -2,7 +2,7 @@
 use Rattle.std.proofs.Common.{◌≡◌, ℕ, ◌+◌, ◌<◌, List, [], ◌∷◌, ◌++◌, length, drop, get_or, sym, ap, subst, ◌∙◌, append_assoc, Result, Ok, Err}
 use Rattle.std.specs.Prelude.{IsErrAnd}
 use Rattle.std.specs.List.{AllByRecursion}
-use Rattle.nob_text.proofs.Ahead.{first_ahead}
+use Rattle.nob_model_text.proofs.Ahead.{first_ahead}
 use Rattle.nob_frame.specs.declared.frame.Frame.{Frame}
 use Rattle.nob_frame.specs.declared.version.Version.{Version}
 use Rattle.nob_trace.specs.declared.stamped.Stamped.{Stamped}

@@ -5,7 +5,7 @@ use Rattle.nob_model_types.specs.declared.entry.Entry.{Entry}
 use Rattle.nob_model.specs.Right.{right}
 use Rattle.nob_trace.specs.declared.stamped.Stamped.{Stamped}
 use Rattle.nob_trace.specs.declared.trace.Trace.{Trace}
-use Rattle.nob_text.proofs.Ahead.{first_ahead}
+use Rattle.nob_model_text.proofs.Ahead.{first_ahead}
 use Rattle.test_definitions.specs.Verdicts.{AreRight, IsVerdict, entry_at}
 use Rattle.nob_trace.specs.Texts.{HaveOneText, right_line, wrong_line}
 

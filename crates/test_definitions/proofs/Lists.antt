@@ -6,7 +6,7 @@ use Rattle.std.specs.List.{AllByRecursion, flat_map}
 use Rattle.nob_model_types.specs.declared.entry.Entry.{Entry}
 use Rattle.nob_trace.specs.declared.trace.Trace.{Trace}
 use Rattle.nob_trace.specs.Traces.{trace_text}
-use Rattle.nob_text.proofs.Ahead.{first_ahead}
+use Rattle.nob_model_text.proofs.Ahead.{first_ahead}
 use Rattle.nob_model_journal.specs.Journals.{at}
 
 -- what holds of all holds of the one at a place

@@ -7,7 +7,7 @@ use Rattle.nob_trace.specs.Traces.{trace_text, IsTrace}
 use Rattle.nob_trace.specs.Reading.{TraceProblem, TracesProblem}
 use Rattle.nob_chain.specs.declared.chain.ChainParts.{ChainParts}
 use Rattle.nob_chain.specs.Chains.{chain_text, IsChain}
-use Rattle.nob_text.specs.Lines.{lines_of}
+use Rattle.nob_model_text.specs.Lines.{lines_of}
 use Rattle.test_definitions.specs.Verdicts.{IsVerdict}
 use Rattle.nob_script_text.specs.declared.ending.Ending.{Ending}
 use Rattle.nob_script_text.specs.Scripts.{FromScript, IsVerdictOf}

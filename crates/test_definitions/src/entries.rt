@@ -3,16 +3,15 @@
 ghost use Rattle.std.specs.Prelude.{◌≡◌, [], Some, IfOk, IfSome};
 ghost use Rattle.nob_ids.specs.Names.{IsSpace};
 ghost use Rattle.nob_model_types.specs.declared.entry.Entry.{Entry as EntryOf};
-ghost use Rattle.nob_text.specs.Lines.{lines_of};
+ghost use Rattle.nob_model_text.specs.Lines.{lines_of};
 ghost use Rattle.test_definitions.specs.Journals as spec;
 
 use nob_check::judge;
 use nob_frame::Version;
 use nob_model::Entry;
 use nob_model_reading::opening_of;
-use nob_model_text::{Unread, space_of};
+use nob_model_text::{Unread, first_line, space_of};
 use nob_script_text::verdict_line;
-use nob_text::first_line;
 use nob_trace::{Stamped, entry_of};
 use std::alloc::{AllocError, Global};
 

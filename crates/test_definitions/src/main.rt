@@ -8,7 +8,7 @@
 
 ghost use Rattle.std.specs.Prelude.{◌≡◌, true, false, codes};
 ghost use Rattle.nob_trace.specs.Reading.{Answers};
-ghost use Rattle.nob_text.specs.Lines.{lines_of};
+ghost use Rattle.nob_model_text.specs.Lines.{lines_of};
 ghost use Rattle.test_definitions.specs.Outputs.{BeginsAsTrace, BeginsWith, IsOutput, IsRefused, has_equals_sign as has_equals_sign_in, has_results as has_results_of};
 
 mod chain;
@@ -18,7 +18,7 @@ mod replay;
 mod script;
 mod trace;
 
-use nob_text::first_line;
+use nob_model_text::first_line;
 use nob_trace::{TraceError, refusal_line};
 use std::alloc::Global;
 use std::io::{Read, Write};

@@ -7,7 +7,7 @@ ghost use Rattle.nob_model_journal.specs.Journals as journals;
 ghost use Rattle.nob_model_journal.specs.Journals.{frames_of};
 ghost use Rattle.nob_model_journal.specs.Runs as runs;
 ghost use Rattle.nob_model_journal.specs.Verdicts.{IsVerdict};
-ghost use Rattle.nob_text.specs.Lines.{lines_of};
+ghost use Rattle.nob_model_text.specs.Lines.{lines_of};
 ghost use Rattle.nob_script_text.specs.declared.ending.Ending.{Ending as EndingOf};
 ghost use Rattle.nob_script_text.specs.Worlds as spec;
 ghost use Rattle.nob_script_text.specs.Scripts.{FromLines, FromOpening, Grows, IsVerdictOf};
@@ -18,8 +18,8 @@ use nob_ids::{Limits, SpaceId};
 use nob_model::{Answer, Entry, Event, Here, Refusal, WorldStep, right};
 use nob_model_journal::{Verdict, verdict_of};
 use nob_model_reading::{opening_of, step_of};
+use nob_model_text::{first_line, push_bad_step, push_line};
 use nob_script_text::{limits_of, result_text, verdict_line};
-use nob_text::{first_line, push_bad_step, push_line};
 use std::alloc::{AllocError, Global};
 use std::marker::Model;
 

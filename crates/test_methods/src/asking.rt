@@ -2,8 +2,8 @@
 
 use crate::rows::Said;
 use crate::thing::Thing;
+use nob_nodes::{Hold, Node, Returned, give_back, give_back_all};
 use nob_pickle::Value;
-use nob_two_nodes::{Hold, Node, Returned, give_back, give_back_all};
 use std::sync::Wait;
 
 // Calls a method of an object, where there is one to call and an argument for it: what that says.

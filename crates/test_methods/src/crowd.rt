@@ -6,10 +6,10 @@ use crate::rows::{Row, Said, say};
 use crate::tally::{counted, remains_of, say_end};
 use crate::thing::Thing;
 use nob_ids::SpaceId;
-use nob_pickle::Value;
-use nob_two_nodes::{
+use nob_nodes::{
     Company, Hold, Keep, Layout, Nobody, Node, Nodes, Player, give_back, look_up, offer, run_nodes,
 };
+use nob_pickle::Value;
 use std::alloc::Global;
 use std::sync::Wait;
 use std::thread::Threads;

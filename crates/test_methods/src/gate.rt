@@ -1,7 +1,7 @@
 //! A gate that counts.
 
 use nob_ids::JobNo;
-use nob_two_nodes::Gate;
+use nob_nodes::Gate;
 use std::sync::atomic::{AtomicU64, Ordering};
 
 /// A gate that counts how many jobs entered it, and how many left.

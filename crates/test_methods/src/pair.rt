@@ -7,10 +7,10 @@ use crate::tally::{remains_of, say_end, say_made_again};
 use crate::thing::{Holder, Odd, Relay, Thing};
 use crate::values::{bytes_of, named};
 use nob_ids::{SpaceId, WireRep};
-use nob_pickle::Value;
-use nob_two_nodes::{
+use nob_nodes::{
     Company, Hold, Keep, Layout, Nobody, Node, Nodes, Player, look_up, offer, run_nodes,
 };
+use nob_pickle::Value;
 use std::alloc::Global;
 use std::sync::Wait;
 use std::thread::Threads;

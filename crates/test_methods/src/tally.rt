@@ -7,9 +7,9 @@ use nob_chain::Chain;
 use nob_chain_check::check;
 use nob_ids::JobNo;
 use nob_model_types::{Event, Outcome, Refusal};
+use nob_nodes::{LeftObject, Played, Report};
 use nob_pickle::Value;
 use nob_trace::Stamped;
-use nob_two_nodes::{LeftObject, Played, Report};
 use std::alloc::Global;
 
 /// What the nodes of a scene left.

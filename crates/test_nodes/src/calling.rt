@@ -2,8 +2,8 @@
 
 use nob_dispatch_objects::Object;
 use nob_ids::SpaceId;
+use nob_nodes::{Hold, Node, Returned};
 use nob_pickle::Value;
-use nob_two_nodes::{Hold, Node, Returned};
 use std::sync::Wait;
 
 /// What a call came to.

@@ -3,7 +3,7 @@
 use crate::shared::Shared;
 use nob_frame::FrameKind;
 use nob_link::{Parcel, PutEnd, TakeEnd};
-use nob_two_nodes::{Beside, Meeting};
+use nob_nodes::{Beside, Meeting};
 use std::sync::Wait;
 use std::{mem, thread};
 

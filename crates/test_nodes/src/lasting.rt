@@ -2,8 +2,8 @@
 
 use crate::calling::{Refusals, Said, found, give_back, offer, said_by};
 use crate::thing::Thing;
+use nob_nodes::{Company, Hold, Node, Played, Player, Record, partner_of, run_two};
 use nob_pickle::Value;
-use nob_two_nodes::{Company, Hold, Node, Played, Player, Record, partner_of, run_two};
 use std::alloc::Global;
 use std::sync::Wait;
 use std::thread::Threads;

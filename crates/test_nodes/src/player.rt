@@ -5,8 +5,8 @@ use crate::calling::{Refusals, Said, found, give_back, offer, said_by};
 use crate::shared::Shared;
 use crate::thing::Thing;
 use nob_ids::SpaceId;
+use nob_nodes::{Company, Hold, Node};
 use nob_pickle::Value;
-use nob_two_nodes::{Company, Hold, Node};
 use std::sync::Wait;
 use std::sync::atomic::AtomicU64;
 use std::time::Duration;
@@ -220,7 +220,7 @@ impl<'m> Player<'m> {
     }
 }
 
-impl<'m> nob_two_nodes::Player<Thing> for Player<'m> {
+impl<'m> nob_nodes::Player<Thing> for Player<'m> {
     fn run<R: Wait>(&mut self, rt: &R, node: &mut Node<Thing>, company: &Company) {
         match self.part {
             Part::Owns => self.own(rt, node, company),

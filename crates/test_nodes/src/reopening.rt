@@ -5,10 +5,10 @@ use crate::thing::Thing;
 use crate::verdict::{Outcome, outcome_of_two};
 use nob_ids::SpaceId;
 use nob_model_types::Refusal;
-use nob_pickle::Value;
-use nob_two_nodes::{
+use nob_nodes::{
     Company, Keep, Node, NodeError, Played, Player, Report, partner_of, run_two_keeping,
 };
+use nob_pickle::Value;
 use std::alloc::Global;
 use std::sync::Wait;
 use std::thread::Threads;

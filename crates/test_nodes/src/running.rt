@@ -7,7 +7,7 @@ use crate::shared::Shared;
 use crate::thing::Thing;
 use crate::verdict::{Outcome, outcome_of};
 use nob_ids::SpaceId;
-use nob_two_nodes::{Keep, Layout, Nodes, Played, Report, run_nodes};
+use nob_nodes::{Keep, Layout, Nodes, Played, Report, run_nodes};
 use std::alloc::Global;
 use std::sync::Wait;
 use std::thread::Threads;

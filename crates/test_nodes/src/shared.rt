@@ -1,7 +1,7 @@
 //! What the threads of a scene share.
 
 use nob_ids::JobNo;
-use nob_two_nodes::Gate;
+use nob_nodes::Gate;
 use std::sync::Wait;
 use std::sync::atomic::{AtomicBool, Ordering};
 use std::thread;

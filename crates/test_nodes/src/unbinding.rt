@@ -6,10 +6,10 @@ use crate::thing::{Doubler, Thing};
 use crate::verdict::{Outcome, outcome_of_two};
 use nob_bytes::Bytes;
 use nob_dispatch_objects::{Agent, Held, Object};
-use nob_pickle::Value;
-use nob_two_nodes::{
+use nob_nodes::{
     Company, Hold, Keep, Node, Played, Player, Report, partner_of, retire, run_two_keeping,
 };
+use nob_pickle::Value;
 use std::alloc::Global;
 use std::sync::Wait;
 use std::thread::Threads;

@@ -3,7 +3,7 @@
 use crate::calling::Refusals;
 use nob_chain::Chain;
 use nob_chain_check::{SetError, check};
-use nob_two_nodes::Record;
+use nob_nodes::Record;
 use std::alloc::Global;
 
 /// What is said of the chains of a scene.

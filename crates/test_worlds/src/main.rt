@@ -16,7 +16,7 @@ use crate::closes::{try_closes, try_lists};
 use crate::growths::try_growths;
 use crate::naming::{Test, own_input, test_named};
 use crate::next::try_next;
-use nob_text::first_line;
+use nob_model_text::first_line;
 use std::io::Read;
 use std::process::ExitCode;
 use std::{env, io};

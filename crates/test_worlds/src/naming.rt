@@ -2,7 +2,7 @@
 
 ghost use Rattle.std.specs.Prelude.{◌≡◌, ◌++◌, ◌≤◌, length};
 
-use nob_text::first_line;
+use nob_model_text::first_line;
 
 /// Which test is meant.
 #[derive(Clone, Copy)]

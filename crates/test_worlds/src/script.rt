@@ -3,15 +3,14 @@
 ghost use Rattle.std.specs.Prelude.{◌≡◌, ◌∷◌, ℕ, List, Some, None, IfOk, IfSome, MatchOption, position};
 ghost use Rattle.std.specs.Fmt.{decimal};
 ghost use Rattle.nob_ids.specs.Names.{IsSpace};
-ghost use Rattle.nob_text.specs.Lines.{lines_of};
+ghost use Rattle.nob_model_text.specs.Lines.{lines_of};
 ghost use Rattle.test_worlds.specs.Scripts as spec;
 
 use nob_ids::{Limits, SpaceId};
 use nob_model::WorldStep;
 use nob_model_reading::{opening_of, step_of};
-use nob_model_text::space_of;
+use nob_model_text::{first_line, number_of, space_of};
 use nob_script_text::limits_of;
-use nob_text::{first_line, number_of};
 use std::alloc::{AllocError, Global};
 
 /// What a line says.

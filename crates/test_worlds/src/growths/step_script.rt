@@ -1,7 +1,7 @@
 //! Scripts of a world whose lines are steps, all of them.
 
 ghost use Rattle.std.specs.Prelude.{Some, None, IfOk, MatchOption};
-ghost use Rattle.nob_text.specs.Lines.{lines_of};
+ghost use Rattle.nob_model_text.specs.Lines.{lines_of};
 ghost use Rattle.test_worlds.specs.Scripts as spec;
 
 use crate::script::{Move, script_of};

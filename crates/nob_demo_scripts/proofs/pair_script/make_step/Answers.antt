@@ -2,7 +2,7 @@ use Rattle.std.proofs.Common.{◌≡◌, ◌++◌, ◌∙◌, ap, refl, sym, sub
 use Rattle.std.proofs.lemmas.Result.{on_ok_weaker}
 use Rattle.nob_demo_scripts.specs.Run.{entries_of, step_answer}
 use Rattle.nob_demo_scripts.specs.Pairs.{Ends, PairStands}
-use Rattle.nob_text.specs.Lines.{answered_text}
+use Rattle.nob_model_text.specs.Lines.{answered_text}
 use Rattle.nob_demo_scripts.specs.PairScripts.{StepMade}
 use Rattle.nob_demo_scripts.proofs.pair_script.make_step.Goals as goal
 

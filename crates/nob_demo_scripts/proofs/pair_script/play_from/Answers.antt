@@ -1,7 +1,7 @@
 use Rattle.std.proofs.Common.{◌≡◌, ◌++◌, [], Option, IfSome, codes, refl, subst}
 use Rattle.std.proofs.lemmas.Result.{IfOk-weaker, on_err_weaker}
 use Rattle.nob_ids.specs.declared.limits.Limits.{Limits}
-use Rattle.nob_text.specs.Lines.{lines_of, bad_step_text}
+use Rattle.nob_model_text.specs.Lines.{lines_of, bad_step_text}
 use Rattle.nob_demo_scripts.specs.Grammar.{header_text, IsLimits}
 use Rattle.nob_demo_scripts.specs.declared.pair_script.PairEnding.TheVariants.{OutOfMemory}
 use Rattle.nob_demo_scripts.specs.PairScripts.{FromHeader, last_line}

@@ -1,6 +1,6 @@
 use Rattle.std.proofs.Common.{◌++◌, codes}
 use Rattle.std.proofs.lemmas.Result.{IfOk-weaker, on_err_weaker}
-use Rattle.nob_text.specs.Lines.{lines_of}
+use Rattle.nob_model_text.specs.Lines.{lines_of}
 use Rattle.nob_demo_scripts.specs.declared.pair_script.PairEnding.TheVariants.{OutOfMemory}
 use Rattle.nob_demo_scripts.specs.PairScripts.{last_line}
 use Rattle.nob_demo_scripts.proofs.Playing.{script_done}

@@ -1,6 +1,6 @@
 use Rattle.std.proofs.Common.{◌≡◌, ◌++◌, [], ℕ, List, ◌∙◌, ap, subst, codes, arith, IfOk, OnErr}
 use Rattle.std.proofs.lemmas.List.{append-nil}
-use Rattle.nob_text.specs.Lines.{lines_of, bad_step_text}
+use Rattle.nob_model_text.specs.Lines.{lines_of, bad_step_text}
 use Rattle.nob_demo_scripts.specs.declared.pair_script.PairEnding.TheVariants.{BadStep}
 use Rattle.nob_demo_scripts.specs.PairScripts.{FromLines}
 use Rattle.nob_demo_scripts.proofs.Playing.{Completes, line_more, lines_done, line_bad, run_stopped, grown, on_err, bad_ended, memory_ended}

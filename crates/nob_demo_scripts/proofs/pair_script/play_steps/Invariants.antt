@@ -1,7 +1,7 @@
 use Rattle.std.proofs.Common.{List, ◌+◌, ◌≤◌, length}
 use Rattle.nob_ids.specs.declared.limits.Limits.{Limits}
 use Rattle.nob_model_session.specs.declared.entry.PairEntry.{PairEntry}
-use Rattle.nob_text.specs.Lines.{lines_of}
+use Rattle.nob_model_text.specs.Lines.{lines_of}
 use Rattle.nob_demo_scripts.specs.Pairs.{PairStands}
 use Rattle.nob_demo_scripts.proofs.Playing.{Completes}
 use Rattle.nob_demo_scripts.proofs.pair_script.play_steps.Given as goal

@@ -1,5 +1,5 @@
 use Rattle.std.proofs.Common.{true, ◌++◌}
-use Rattle.nob_text.specs.Lines.{lines_of}
+use Rattle.nob_model_text.specs.Lines.{lines_of}
 use Rattle.nob_script_text.specs.Scripts.{last_line}
 use Rattle.nob_script_text.proofs.Playing.{script_done}
 use Rattle.nob_demo_scripts.specs.WorldScripts.{IsSafelyYes}

@@ -1,5 +1,5 @@
 use Rattle.std.proofs.Common.{ℕ, List, true, ◌++◌, ◌∷◌, arith, ap, subst, codes}
-use Rattle.nob_text.specs.Lines.{lines_of}
+use Rattle.nob_model_text.specs.Lines.{lines_of}
 use Rattle.nob_script_text.specs.declared.ending.Ending.TheVariants.{OutOfMemory}
 use Rattle.nob_script_text.specs.Scripts.{FromLines, Grows, last_line}
 use Rattle.nob_script_text.proofs.Playing.{Completes, line_more, lines_done, run_stopped, grown}

@@ -1,5 +1,5 @@
 use Rattle.std.proofs.Common.{◌+◌, ◌≤◌, true, length}
-use Rattle.nob_text.specs.Lines.{lines_of}
+use Rattle.nob_model_text.specs.Lines.{lines_of}
 use Rattle.nob_script_text.proofs.Playing.{Completes}
 use Rattle.nob_demo_scripts.specs.WorldScripts.{script_world, IsSafelyYes}
 use Rattle.nob_demo_scripts.proofs.world_script.play_steps.Given as goal

@@ -1,7 +1,7 @@
 use Rattle.std.proofs.Common.{◌≡◌, ℕ, true, List, length, reverse, sym, ap, subst, ◌∙◌}
 use Rattle.nob_model_types.specs.declared.entry.Entry.{Entry}
 use Rattle.nob_model_journal.specs.Runs.{WorldRun}
-use Rattle.nob_text.specs.Lines.{answered_text}
+use Rattle.nob_model_text.specs.Lines.{answered_text}
 use Rattle.nob_script_text.specs.Scripts.{StepMade}
 use Rattle.nob_demo_scripts.specs.WorldScripts.{script_world, step_result_text}
 use Rattle.nob_demo_scripts.proofs.WorldSteps.{step_made, line_written}

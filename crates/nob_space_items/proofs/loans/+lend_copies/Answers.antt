@@ -1,7 +1,7 @@
 use Rattle.std.proofs.Common.{◌≡◌, ◌-◌, List, [], ◌∷◌, ◌++◌, length, take, drop, sym, ap, subst, ◌∙◌}
 use Rattle.nob_model_types.specs.declared.message.RefCopy.{RefCopy}
 use Rattle.nob_model_history.specs.Holds.{copies_lent}
-use Rattle.nob_space_holds.proofs.Returned.{copies_both}
+use Rattle.nob_space_state.proofs.Returned.{copies_both}
 use Rattle.nob_model_types.proofs.Lists.{first_and_rest, rest_is}
 use Rattle.nob_space_items.specs.Lending.{Lends}
 use Rattle.nob_space_items.proofs.Lends.{lends_then}

@@ -1,5 +1,5 @@
 use Rattle.std.proofs.Common.{rules, true, sym, subst, ◌∙◌}
-use Rattle.nob_space_holds.proofs.Returned.{copy_lends}
+use Rattle.nob_space_state.proofs.Returned.{copy_lends}
 use Rattle.nob_space_items.specs.Lending.{CanLend, Lends}
 use Rattle.nob_space_items.proofs.loans.lend_copy.Goals as goal
 

@@ -1,5 +1,5 @@
 use Rattle.std.proofs.Common.{sym, subst}
-use Rattle.nob_space_holds.proofs.Returned.{no_target}
+use Rattle.nob_space_state.proofs.Returned.{no_target}
 use Rattle.nob_space_items.specs.Lending.{Lends}
 use Rattle.nob_space_items.proofs.Lends.{lends_none}
 use Rattle.nob_space_items.proofs.loans.lend_target.Goals as goal

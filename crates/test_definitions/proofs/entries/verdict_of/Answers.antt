@@ -1,4 +1,4 @@
-use Rattle.nob_text.specs.Lines.{lines_of}
+use Rattle.nob_model_text.specs.Lines.{lines_of}
 use Rattle.test_definitions.proofs.Entering.{journal_so}
 use Rattle.test_definitions.proofs.Playing.{found_so}
 use Rattle.test_definitions.proofs.entries.verdict_of.Goals as goal

@@ -1,6 +1,6 @@
 use Rattle.std.proofs.Common.{List, ℕ, subst, arith, ap, [], ◌∷◌, ◌≡◌, ◌∙◌, reverse}
 use Rattle.std.proofs.lemmas.List.{reverse-append}
-use Rattle.nob_text.specs.Lines.{lines_of}
+use Rattle.nob_model_text.specs.Lines.{lines_of}
 use Rattle.test_definitions.proofs.Entering.{Reads, reads_on, no_entry, bad_so}
 use Rattle.test_definitions.proofs.Playing.{found_so}
 use Rattle.test_definitions.proofs.entries.verdict_on_lines.Goals as goal

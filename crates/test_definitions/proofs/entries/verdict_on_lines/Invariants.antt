@@ -1,5 +1,5 @@
 use Rattle.std.proofs.Common.{◌+◌, ◌≤◌, length, reverse}
-use Rattle.nob_text.specs.Lines.{lines_of}
+use Rattle.nob_model_text.specs.Lines.{lines_of}
 use Rattle.test_definitions.proofs.Entering.{Reads}
 use Rattle.test_definitions.proofs.entries.verdict_on_lines.Given as goal
 

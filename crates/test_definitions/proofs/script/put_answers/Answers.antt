@@ -1,5 +1,5 @@
 use Rattle.std.proofs.Common.{false, refl}
-use Rattle.nob_text.specs.Lines.{lines_of, bad_step_text}
+use Rattle.nob_model_text.specs.Lines.{lines_of, bad_step_text}
 use Rattle.nob_script_text.specs.Scripts.{FromOpening, IsVerdictOf}
 use Rattle.nob_script_text.proofs.Playing.{bad_made, no_opening, opening_done}
 use Rattle.test_definitions.proofs.Playing.{found_so, on_ok_so}

@@ -1,5 +1,5 @@
 use Rattle.std.proofs.Common.{ℕ, List, false, arith, ap, refl, subst, ◌∙◌}
-use Rattle.nob_text.specs.Lines.{lines_of, answered_text}
+use Rattle.nob_model_text.specs.Lines.{lines_of, answered_text}
 use Rattle.nob_script_text.specs.declared.ending.Ending.TheVariants.{Judged}
 use Rattle.nob_script_text.specs.Scripts.{AtEnd, FromLines, StepMade, IsVerdictOf}
 use Rattle.nob_script_text.proofs.Playing.{Completes, begun, line_more, lines_done, line_bad, no_step, bad_made}

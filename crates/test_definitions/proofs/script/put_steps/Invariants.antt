@@ -1,5 +1,5 @@
 use Rattle.std.proofs.Common.{◌+◌, ◌≤◌, false, length}
-use Rattle.nob_text.specs.Lines.{lines_of}
+use Rattle.nob_model_text.specs.Lines.{lines_of}
 use Rattle.nob_script_text.specs.Scripts.{IsVerdictOf}
 use Rattle.nob_script_text.proofs.Playing.{Completes}
 use Rattle.test_definitions.proofs.script.put_steps.Given as goal

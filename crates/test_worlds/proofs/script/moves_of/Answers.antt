@@ -1,7 +1,7 @@
 use Rattle.std.proofs.Common.{ℕ, List, [], ◌++◌, Some, refl, subst}
 use Rattle.std.proofs.lemmas.List.{append-nil}
 use Rattle.test_worlds.specs.declared.script.Move.{Move}
-use Rattle.nob_text.specs.Lines.{lines_of}
+use Rattle.nob_model_text.specs.Lines.{lines_of}
 use Rattle.test_worlds.specs.Scripts.{SayAll}
 use Rattle.test_worlds.proofs.script.moves_of.Goals as goal
 

@@ -1,6 +1,6 @@
 use Rattle.std.proofs.Common.{List, ◌++◌, Some, None, length}
 use Rattle.test_worlds.specs.declared.script.Move.{Move}
-use Rattle.nob_text.specs.Lines.{lines_of}
+use Rattle.nob_model_text.specs.Lines.{lines_of}
 use Rattle.test_worlds.specs.Scripts.{SayAll}
 use Rattle.test_worlds.proofs.script.moves_of.Given as goal
 

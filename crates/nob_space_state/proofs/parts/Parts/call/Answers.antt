@@ -16,7 +16,7 @@ use Rattle.nob_model_work.specs.declared.work.Stage.TheVariants as stages
 use Rattle.nob_ids.specs.declared.wire_rep.WireRep.{WireRep}
 use Rattle.nob_model_types.specs.declared.message.Message.{Message}
 use Rattle.nob_space_calls.specs.Calls.{IsAbove}
-use Rattle.nob_space_holds.specs.Pins.{AddsPins}
+use Rattle.nob_space_state.specs.Pins.{AddsPins}
 use Rattle.nob_space_state.specs.Parts.{State, state_of}
 use Rattle.nob_space_state.specs.Stands.{Stands}
 use Rattle.nob_space_state.proofs.Calling.{calls_below, call_judged, call_right, call_ok, call_wants, call_spelled, call_stands, few_calls, peer_range, next_free, stands_unsent}

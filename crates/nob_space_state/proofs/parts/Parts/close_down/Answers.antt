@@ -3,15 +3,15 @@ use Rattle.nob_pins.specs.Bundles.{TakesOutAll}
 use Rattle.nob_model_types.specs.Messages.{is_not_from}
 use Rattle.nob_space_messages.specs.Jobs.{JobLists}
 use Rattle.nob_space_messages.specs.Waiting.{WaitingList, is_awaited}
-use Rattle.nob_space_holds.specs.Returns.{HasLent, GivesBack, lent_from}
+use Rattle.nob_space_state.specs.Returns.{HasLent, GivesBack, lent_from}
 use Rattle.nob_space_state.specs.Closing.{ClosesDown, lent_in_vain}
 use Rattle.nob_space_state.specs.Parts.{state_of}
 use Rattle.nob_space_state.proofs.Closings.{thrown_work}
 use Rattle.nob_space_state.proofs.Exported.{kept_before}
 use Rattle.nob_table.specs.Table.{is_kept, is_of}
 use Rattle.nob_table_rows.specs.Order.{place_in}
-use Rattle.nob_space_holds.proofs.Marked.{same_standing}
-use Rattle.nob_space_holds.proofs.Returned.{back_then, lent_then}
+use Rattle.nob_space_state.proofs.Marked.{same_standing}
+use Rattle.nob_space_state.proofs.Returned.{back_then, lent_then}
 use Rattle.nob_space_state.proofs.parts.Parts.close_down.Goals as goal
 
 pub throw_ready_away-requires : goal.throw_ready_away-requires

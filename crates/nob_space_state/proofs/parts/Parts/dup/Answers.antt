@@ -3,7 +3,7 @@ use Rattle.std.proofs.lemmas.Option.{none-some}
 use Rattle.nob_model_types.specs.declared.answer.Answer.TheVariants as answers
 use Rattle.nob_model_acting.specs.Sending.{unless}
 use Rattle.nob_space_state.specs.Parts.{state_of}
-use Rattle.nob_space_holds.proofs.Shows.{shows_hand_more}
+use Rattle.nob_space_state.proofs.Shows.{shows_hand_more}
 use Rattle.nob_space_state.proofs.Hands.{dup_right, dup_finds_room, dup_stands}
 use Rattle.nob_space_state.proofs.Passing.{refused_on}
 use Rattle.nob_space_state.proofs.Orderly.{dup_is}

@@ -18,7 +18,7 @@ use Rattle.nob_model_acting.specs.Sending.{unless}
 use Rattle.nob_space_messages.specs.Waiting.{WaitingList}
 use Rattle.nob_space_state.specs.Looks.{has_ended}
 use Rattle.nob_space_state.specs.Parts.{state_of}
-use Rattle.nob_space_holds.specs.Pins.{AddsPins}
+use Rattle.nob_space_state.specs.Pins.{AddsPins}
 use Rattle.nob_space_state.specs.Sending.{reply_refusal}
 use Rattle.nob_space_state.specs.Stands.{Stands}
 use Rattle.nob_space_state.proofs.Calling.{peer_range, next_free, stands_unsent}

@@ -3,7 +3,7 @@ use Rattle.nob_model.specs.Next.{is_not_ready}
 use Rattle.nob_model.specs.Right.{answer_of_stage}
 use Rattle.nob_space_calls.specs.Calls.{is_reply}
 use Rattle.nob_space_state.specs.Parts.{state_of}
-use Rattle.nob_space_holds.specs.TakingOver.{reps_of}
+use Rattle.nob_space_state.specs.TakingOver.{reps_of}
 use Rattle.nob_model.proofs.Accepted.{found_passes}
 use Rattle.nob_space_state.proofs.Replies.{ready_there, ready_reply, take_no_call, take_no_reply, take_reply_there}
 use Rattle.nob_space_state.proofs.parts.Parts.reply_ready.Goals as goal

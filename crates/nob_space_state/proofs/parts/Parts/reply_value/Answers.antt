@@ -5,7 +5,7 @@ use Rattle.nob_model_types.specs.declared.refusal.Refusal.TheVariants as refusal
 use Rattle.nob_model.proofs.Accepted.{found_passes}
 use Rattle.nob_space_calls.specs.Calls.{is_reply}
 use Rattle.nob_space_state.specs.Parts.{state_of}
-use Rattle.nob_space_holds.specs.TakingOver.{reps_of}
+use Rattle.nob_space_state.specs.TakingOver.{reps_of}
 use Rattle.nob_space_state.specs.Taking.{is_overfull, take_answer}
 use Rattle.nob_space_state.proofs.Passing.{after_error}
 use Rattle.nob_space_state.proofs.Replies.{take_no_call, take_no_reply, take_reply_there, reply_is, full_answer, reply_answer, overfull_there, reply_told, refused_brings_none, stage_brings_none, brings_same}

@@ -10,8 +10,8 @@ use Rattle.nob_model_types.specs.declared.deed.Deed.TheVariants as did
 use Rattle.nob_space_calls.specs.Calls.{is_reply}
 use Rattle.nob_space_state.specs.Parts.{state_of}
 use Rattle.nob_space_state.specs.Stands.{Stands}
-use Rattle.nob_space_holds.specs.Shows.{TableShows}
-use Rattle.nob_space_holds.specs.TakingOver.{reps_of, CanTake, with_more, with_fewer}
+use Rattle.nob_space_state.specs.Shows.{TableShows}
+use Rattle.nob_space_state.specs.TakingOver.{reps_of, CanTake, with_more, with_fewer}
 use Rattle.nob_space_state.specs.Taking.{is_overfull}
 use Rattle.nob_model.proofs.Accepted.{found_passes}
 use Rattle.nob_space_state.proofs.Firsts.{some_same}

@@ -2,7 +2,7 @@ use Rattle.std.proofs.Common.{List, Some, None, inr, subst}
 use Rattle.std.specs.Global.{Vec}
 use Rattle.std.proofs.lemmas.Option.{MatchOption-at_some, MatchOption-at_none}
 use Rattle.nob_model_types.specs.declared.entry.WorldStep.{WorldStep}
-use Rattle.nob_text.specs.Lines.{lines_of}
+use Rattle.nob_model_text.specs.Lines.{lines_of}
 use Rattle.test_worlds.specs.declared.script.Move.{Move}
 use Rattle.test_worlds.specs.declared.script.Script.{Script}
 use Rattle.test_worlds.specs.Scripts.{AreSteps, SpellScript, SpellNoScript}

@@ -1,6 +1,6 @@
 use denote.Param.Send.{sendable}
 use Rattle.std.proofs.Crossing.{crosses}
-use Rattle.nob_node_jobs.proofs.Crossing.{hand_of_node_send}
+use Rattle.nob_node_parts.proofs.JobsCrossing.{hand_of_node_send}
 use Rattle.nob_node_site.proofs.Crossing.{site_sync, probing_send}
 use Rattle.nob_node_site.proofs.crew.fn.run_crew.scope.Goals as goal
 

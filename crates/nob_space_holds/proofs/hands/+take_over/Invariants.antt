@@ -1,5 +1,0 @@
-use Rattle.std.proofs.Common.{length}
-use Rattle.nob_space_holds.proofs.hands.+take_over.Given as goal
-
-abbrev pub decreases-take_over : goal.decreases-take_over
-decreases-take_over l = length l.copies.now

@@ -1,5 +1,0 @@
-use Rattle.std.proofs.Common.{length}
-use Rattle.nob_space_holds.proofs.hands.+times.Given as goal
-
-abbrev pub decreases-times : goal.decreases-times
-decreases-times l = length l.copies.now

@@ -1,4 +1,0 @@
-use Rattle.nob_space_holds.proofs.sending.send_reserved.Goals as goal
-
-pub returns-clause-answer : goal.returns-clause-answer
-returns-clause-answer c me peer limits L stands = ((c.in-Ok.ensures {u = tt}).answer me peer limits L stands).1

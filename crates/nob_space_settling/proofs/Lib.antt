@@ -1,9 +1,0 @@
-pub mod Spares
-pub mod Noting
-pub mod Fixing
-pub mod Forgetting
-pub mod Placed
-pub mod Settleable
-pub mod Resolving
-pub mod Settlements
-pub mod Numbering

@@ -1,0 +1,5 @@
+use Rattle.std.proofs.Common.{length}
+use Rattle.nob_space_state.proofs.hands.+times.Given as goal
+
+abbrev pub decreases-times : goal.decreases-times
+decreases-times l = length l.copies.now

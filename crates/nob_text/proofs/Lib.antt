@@ -1,3 +1,0 @@
-pub mod HexTexts
-pub mod LineTexts
-pub mod Ahead
