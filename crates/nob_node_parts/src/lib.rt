@@ -1,6 +1,6 @@
 //! What the threads of a node share, part by part, each a small machine: how it starts and fails, what
-//! transmits, what collects, what comes over the links, who waits for replies, the objects, and how
-//! threads without work wait.
+//! transmits, what collects, what comes over the links, who waits for replies, the objects and their
+//! jobs, and how threads without work wait.
 #![tactic(auto)]
 
 mod collecting;

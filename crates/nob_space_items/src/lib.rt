@@ -1,4 +1,5 @@
-//! What a space does about the items that come: acting on them.
+//! What a space does about the items that come: acting on them, settling the messages that wait for
+//! their references, and giving surrogates up.
 #![tactic(auto)]
 
 mod acting;

@@ -1,5 +1,5 @@
-//! The state of a space, in parts: what a space keeps, and for which lists of what it did that
-//! stands.
+//! The state of a space, in parts: what a space keeps, for which lists of what it did that stands, and
+//! how the holds of references go from one part to another.
 #![tactic(auto)]
 
 mod birth;
@@ -7,7 +7,6 @@ mod calls;
 mod closing;
 mod error;
 mod finish;
-mod hands;
 mod jobs;
 mod listings;
 mod looks;
@@ -21,13 +20,14 @@ mod sending;
 mod sessions;
 mod shut;
 mod take;
+mod taking_over;
 
 pub use birth::{Birth, BirthError, BirthFault};
 pub use error::SpaceError;
 pub use finish::ReplyFate;
-pub use hands::{take_over, times};
 pub use listings::{settle_pins, unlist};
 pub use parts::Parts;
 pub use pinning::{encode_note, send_pinned, send_reserved};
 pub use returns::{end_job, give_back, give_back_message, throw_ready_away, throw_waiting_away};
 pub use take::CallResult;
+pub use taking_over::{take_over, times};

@@ -1,12 +1,8 @@
-//! The program `test_dispatch`: the dispatchers and workers of two spaces, in one thread, and then each
-//! line of the agent's table, told of each hold that it was made; between them a pool ends, and what it left
-//! is gathered. No clause says that jobs are carried
-//! out: this run shows it.
+//! The program `test_dispatch`: the dispatchers and workers of two spaces, in one thread, and then a pool
+//! that ends, of which what it left is gathered. No clause says that jobs are carried out: this run shows
+//! it.
 #![tactic(auto)]
 
-mod cases;
-mod name_rows;
-mod names;
 mod node;
 mod objects;
 mod pool;
@@ -25,11 +21,10 @@ fn main(rt: HostRuntime) -> ExitCode {
     }
 }
 
-// Runs the dispatchers and workers, and then the agent alone.
+// Runs the dispatchers and workers, and then the pool.
 fn run<R: Wait + Print>(rt: &R, alloc: Global) -> io::Result<()> {
     print_jobs(rt, alloc)?;
-    print_pool(rt, alloc)?;
-    print_names(rt, alloc)
+    print_pool(rt, alloc)
 }
 
 // Runs the rows, and prints what was told.
@@ -64,17 +59,6 @@ fn print_pool<R: Wait + Print>(rt: &R, alloc: Global) -> io::Result<()> {
     println!(rt; "errands that a pool left in its lane: {}", left.errands)?;
     println!(rt; "objects that were on their way back: {}", left.objects)?;
     println!(rt; "each entry has its receipt: {}", said(left.is_whole))
-}
-
-// Runs the lines of the agent's table, and prints what they say.
-fn print_names<R: Print>(rt: &R, alloc: Global) -> io::Result<()> {
-    let Some(rows) = cases::run(alloc) else {
-        return println!(rt; "failed");
-    };
-    for row in rows.iter() {
-        name_rows::print(rt, row)?;
-    }
-    Ok(())
 }
 
 // Yes or no.

@@ -3,7 +3,7 @@ use Rattle.nob_ids.specs.declared.wire_rep.WireRep.{WireRep}
 use Rattle.nob_space_state.specs.Shows.{TableShows}
 use Rattle.nob_space_state.specs.TakingOver.{reps_of, CanTake, with_more, with_fewer}
 use Rattle.nob_space_state.proofs.Taking.{can_rest, shows_all, first_rep}
-use Rattle.nob_space_state.proofs.hands.+take_over.Goals as goal
+use Rattle.nob_space_state.proofs.taking_over.+take_over.Goals as goal
 
 pub take_over-requires : goal.take_over-requires
 take_over-requires t c =
