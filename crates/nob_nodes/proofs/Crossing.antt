@@ -6,6 +6,7 @@ use denote.Struct.Declared.{shape}
 use denote.Struct.Struct.{Struct}
 use denote.Struct.Tuple.{Tuple, tuple_type}
 use Rattle.std.proofs.Crossing.{crosses, Vec-send}
+use Rattle.nob_dispatch_objects.specs.declared.object.Object as Object
 use Rattle.nob_node.proofs.Crossing.{record_send}
 use Rattle.nob_node.proofs.Crossing.{left_send}
 use Rattle.nob_node.proofs.error.NodeError.TheSendSync as node_error
@@ -29,17 +30,17 @@ module _ (O : RattleType) (crossing : IsSend O) (A : RattleType) (crosses_too : 
   turn_send : IsSend (Tuple (Launch.the_row ∷ A ∷ []))
   turn_send = pair_send Launch.the_row A launch.the_send crosses_too
 
-  pub played_send : IsSend (Played.the_row O A)
-  played_send =
-      let T = Played.the_type O A in
+  pub played_send : (k : Object.Ghosts O.Denot) → IsSend (Played.the_row O A k)
+  played_send k =
+      let T = Played.the_type O A k in
       recorded_send (Struct (shape T)) T.D T.to T.to_one (struct_send (shape T) (
         search (crosses, sendable) depth 60 fits 20000,
         (crosses_too, (search (report_send, pair_send _ _ node_error.the_send (Vec-send _ (left_send O crossing)), crosses, sendable) depth 60 fits 20000, tt)),
       ))
 
-  pub post_sync : IsSync (Post.the_row O A)
-  post_sync =
-      let T = Post.the_type O A in
+  pub post_sync : (k : Object.Ghosts O.Denot) → IsSync (Post.the_row O A k)
+  post_sync k =
+      let T = Post.the_type O A k in
       recorded_sync (Struct (shape T)) T.D T.to T.to_one (struct_sync (shape T) (
         search (turn_send, crosses, sendable) depth 60 fits 20000,
         (search (played_send, crosses, sendable) depth 60 fits 20000, tt),
