@@ -5,7 +5,8 @@ use nob_bytes::Bytes;
 use nob_case_texts::{Answer, Refusal, refused_frame};
 use nob_frame::Frame;
 use nob_ids::{Limits, Reason, SpaceId};
-use nob_model_session::{Arrived, EndEntry, EndRefusal, Frames, end, right};
+use nob_model_session::{Arrived, EndEntry, EndRefusal, Frames};
+use nob_plain_ends::{end, right};
 use nob_session::{Kind, SessionError};
 use std::alloc::{AllocError, Global};
 

@@ -15,9 +15,10 @@ use nob_check_index::DeedIndex;
 use nob_check_ledgers::{Ledger, is_carried, is_loss};
 use nob_ids::{ItemNo, Reason, SpaceId, WireRep};
 use nob_item::Item;
-use nob_model_history::{SentItem, transit};
+use nob_model_history::SentItem;
 use nob_model_journal::Source;
 use nob_model_types::{Answer, Deed, Refusal};
+use nob_plain_history::transit;
 use std::alloc::{AllocError, Global};
 
 // Whether a session closes for this reason for a fault in what came over it.

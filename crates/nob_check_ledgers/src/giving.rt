@@ -14,10 +14,10 @@ use nob_ids::{ItemNo, SpaceId, WireRep};
 use nob_item::Item;
 use nob_model_types::Deed;
 use nob_model_types::message::Message;
-use nob_model_work::gifts::{
+use nob_model_work::{Gift, Outstanding};
+use nob_plain_words::gifts::{
     find_waiting, lone, of_call, of_finish, once, settle_and_reply, to_peers,
 };
-use nob_model_work::{Gift, Outstanding};
 use std::alloc::{AllocError, Global};
 
 // Whether a reference gets a Dirty when an item that carries it is acted on.

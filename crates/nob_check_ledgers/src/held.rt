@@ -5,7 +5,7 @@ ghost use Rattle.nob_check_ledgers.specs.Ledgers as words;
 
 use crate::ledger::Ledger;
 use nob_ids::WireRep;
-use nob_model_history::holds::{lent_in, times};
+use nob_plain_history::holds::{lent_in, times};
 use std::alloc::{AllocError, Global};
 
 /// Whether the space of a ledger holds a reference. It passes what is outstanding. No journal has so

@@ -7,7 +7,7 @@ ghost use Rattle.nob_model_types.specs.Sessions.{item_at as item_word};
 use nob_check_index::DeedIndex;
 use nob_ids::{ItemNo, SpaceId, WireRep};
 use nob_item::Item;
-use nob_model_types::turns;
+use nob_plain_words::turns;
 use std::alloc::{AllocError, Global};
 
 /// Whether the item of this number from a space carries a reference. It looks up the item.

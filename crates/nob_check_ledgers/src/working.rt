@@ -15,7 +15,7 @@ use nob_item::Item;
 use nob_model_types::message::Message;
 use nob_model_types::{Deed, List};
 use nob_model_work::Outstanding;
-use nob_model_work::work::{
+use nob_plain_words::work::{
     after_call, after_claim, after_close, after_end, after_finish, after_message, after_settlement,
     after_take, take_waiting,
 };

@@ -8,8 +8,8 @@ use indexmap::IndexMap;
 use nob_frame::Frame;
 use nob_ids::{ItemNo, SpaceId};
 use nob_item::Item;
-use nob_model_session::end::brings_at;
-use nob_model_types::sessions;
+use nob_plain_ends::end::brings_at;
+use nob_plain_words::sessions;
 use std::alloc::{AllocError, Global};
 use std::marker::Model;
 

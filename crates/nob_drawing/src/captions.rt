@@ -13,9 +13,9 @@ use nob_frame::{Frame, FrameKind};
 use nob_ids::{SpaceId, WireRep};
 use nob_item::Item;
 use nob_model_text::{answer_text, event_text, refusal_text, rep_text, value_text};
-use nob_model_types::sessions::item_spelt;
 use nob_model_types::{Answer, Entry, Event, Refusal};
 use nob_pickle::Value;
+use nob_plain_words::sessions::item_spelt;
 use std::alloc::{AllocError, Global};
 
 // A word and a reference.

@@ -14,8 +14,8 @@ use nob_frame::{Frame, FrameKind};
 use nob_ids::SpaceId;
 use nob_item::Item;
 use nob_model_text::value_text;
-use nob_model_types::sessions::item_spelt;
 use nob_pickle::Value;
+use nob_plain_words::sessions::item_spelt;
 use std::alloc::{AllocError, Global};
 
 // Bytes with their text, or as this text where they are none.

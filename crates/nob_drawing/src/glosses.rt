@@ -10,9 +10,9 @@ ghost use Rattle.nob_drawing.specs.Glosses as spec;
 use nob_frame::{Frame, FrameKind};
 use nob_ids::Reason;
 use nob_item::Item;
-use nob_model_types::sessions::item_spelt;
 use nob_model_types::{Answer, Entry, Event, Outcome, Refusal, Use};
 use nob_pickle::Value;
+use nob_plain_words::sessions::item_spelt;
 use std::alloc::{AllocError, Global};
 
 // Whether a byte is a sign of ASCII or a space.

@@ -10,9 +10,9 @@ ghost use Rattle.nob_drawing_choice.specs.Naming as spec;
 use nob_frame::{Frame, FrameKind};
 use nob_ids::{SpaceId, WireRep};
 use nob_item::Item;
-use nob_model_types::sessions::item_spelt;
 use nob_model_types::{Answer, Entry, Event, Outcome, Refusal};
 use nob_pickle::{Value, refs_of};
+use nob_plain_words::sessions::item_spelt;
 use std::alloc::{AllocError, Global};
 
 // An object of a space.

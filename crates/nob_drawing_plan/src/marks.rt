@@ -10,10 +10,12 @@ ghost use Rattle.nob_drawing_plan.specs.Marks as spec;
 
 use crate::mark::Mark;
 use nob_ids::{SpaceId, WireRep};
-use nob_model_history::{History, SentItem, listing, transit};
+use nob_model_history::{History, SentItem};
 use nob_model_journal::journals::history_at;
-use nob_model_types::{Deed, Entry, Here, objects};
-use nob_model_work::gifts::once;
+use nob_model_types::{Deed, Entry, Here};
+use nob_plain_history::{listing, transit};
+use nob_plain_words::gifts::once;
+use nob_plain_words::objects;
 use std::alloc::{AllocError, Global};
 
 // Each of these objects is live.

@@ -8,16 +8,13 @@ mod answers;
 mod events;
 mod frames;
 pub mod laws;
-pub mod next;
-pub mod opening;
 pub mod right;
-pub mod tallies;
 mod values;
 
 pub use answers::{same_answer, same_job, same_refusal, same_result};
 pub use events::{same_event, same_outcome};
 pub use frames::{same_frame, same_frames};
-pub use nob_model_history::{History, SentItem, history_of, make_history};
+pub use nob_model_history::{History, SentItem};
 pub use nob_model_session::{Arrived, EndEntry, EndRefusal, Ending, Frames, Kind, PairEntry};
 pub use nob_model_types::{
     Answer, Backlog, Cause, Deed, Entry, Event, Here, Job, Loan, Message, Outcome, OwnerAnswer,

@@ -8,9 +8,10 @@ ghost use Rattle.nob_model_chains.specs.Sealing as words;
 
 use nob_chain::{Chain, PeerSeal, Seal};
 use nob_ids::{Reason, SpaceId};
-use nob_model::tallies::{live_count, tally};
-use nob_model::{Entry, Here, History, make_history};
+use nob_model::{Entry, Here, History};
 use nob_model_traces::copy_entry;
+use nob_plain_answers::tallies::{live_count, tally};
+use nob_plain_history::history::make_history;
 use nob_trace::Stamped;
 use std::alloc::{AllocError, Global};
 

@@ -4,14 +4,10 @@
 //! list.
 #![tactic(auto)]
 
-pub mod ends;
 mod history;
-pub mod holds;
 pub mod laws;
-pub mod listing;
-pub mod transit;
+mod transit;
 
-pub use history::{History, history_of, make_history};
-pub use nob_model_work::gifts::dirties_for;
+pub use history::History;
 pub use nob_model_work::{Gift, Outstanding, OwnCall, Run, Stage};
 pub use transit::SentItem;

@@ -10,8 +10,9 @@ use crate::journals::{acted_in, history_at, sent_in, sessions_in, spaces_in};
 use crate::same::same_item;
 use nob_ids::{ItemNo, SpaceId};
 use nob_item::Item;
-use nob_model_types::{Deed, Entry, Here, List, sessions};
+use nob_model_types::{Deed, Entry, Here, List};
 use nob_model_work::Gift;
+use nob_plain_words::sessions;
 use std::alloc::{AllocError, Global};
 
 // Whether items with their numbers are the first of these, which are counted from `number` on.

@@ -9,8 +9,11 @@ ghost use Rattle.nob_model_journal.specs.Tests as tests;
 
 use nob_ids::{ItemNo, SpaceId};
 use nob_item::Item;
-use nob_model_history::{History, SentItem, history_of, transit};
-use nob_model_types::{Deed, Entry, Here, sessions};
+use nob_model_history::{History, SentItem};
+use nob_model_types::{Deed, Entry, Here};
+use nob_plain_history::history::history_of;
+use nob_plain_history::transit;
+use nob_plain_words::sessions;
 use std::alloc::{AllocError, Global};
 
 /// The entries of a space, copied.

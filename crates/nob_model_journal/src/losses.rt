@@ -15,8 +15,10 @@ use crate::journals::{both_open, deeds_at, history_at, number_at};
 use crate::safety::is_with_owner;
 use nob_ids::{ItemNo, SpaceId, WireRep};
 use nob_item::Item;
-use nob_model_history::{SentItem, transit};
-use nob_model_types::{Deed, Entry, Here, sessions, turns};
+use nob_model_history::SentItem;
+use nob_model_types::{Deed, Entry, Here};
+use nob_plain_history::transit;
+use nob_plain_words::{sessions, turns};
 use std::alloc::{AllocError, Global};
 
 /// Where a copy of a reference came from.

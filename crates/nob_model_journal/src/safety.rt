@@ -9,8 +9,10 @@ ghost use Rattle.nob_model_journal.specs.Tests as tests;
 
 use crate::journals::{both_open, deeds_at, history_at, number_at, spaces_in};
 use nob_ids::{SpaceId, WireRep};
-use nob_model_history::{History, SentItem, holds, transit};
-use nob_model_types::{Deed, Entry, Here, turns};
+use nob_model_history::{History, SentItem};
+use nob_model_types::{Deed, Entry, Here};
+use nob_plain_history::{holds, transit};
+use nob_plain_words::turns;
 use std::alloc::{AllocError, Global};
 
 /// Whether a space is the owner of a reference, or its session with the owner is open at both ends.

@@ -7,7 +7,8 @@ ghost use Rattle.nob_model_traces.specs.Traces as words;
 
 use crate::merging::copy_entry;
 use nob_ids::Limits;
-use nob_model::{Entry, Here, right, same_result};
+use nob_model::{Entry, Here, same_result};
+use nob_plain_answers::right;
 use nob_trace::{Stamped, Trace};
 use std::alloc::{AllocError, Global};
 

@@ -7,7 +7,7 @@ use crate::{Answer, Entry, Event, Job, Outcome};
 use nob_ids::{CallNo, ItemNo, JobNo, Reason, SpaceId, WireRep};
 use nob_item::Value;
 use nob_model_session::{Frame, Frames};
-use std::alloc::{AllocError, Global};
+use std::alloc::AllocError;
 
 /// By which event a session closed.
 #[derive(Debug, Drop)]
@@ -192,22 +192,6 @@ impl Deed {
         match &entry.result {
             Ok(answer) => Deed::of(&entry.event, answer),
             Err(_) => Ok(None),
-        }
-    }
-}
-
-/// What the entries of one space's list did, the newest first as they are.
-pub fn deeds(alloc: Global, entries: &[Entry]) -> Result<Vec<Deed>, AllocError>
-    ensures { IfOk result (λ deeds. deeds.items ≡ deeds_of entries.now) }
-{
-    match entries {
-        [] => Ok(Vec::new(alloc)),
-        [entry, older @ ..] => {
-            let mut did = deeds(alloc, older)?;
-            if let Some(deed) = Deed::of_entry(entry)? {
-                did.insert(0, deed)?;
-            }
-            Ok(did)
         }
     }
 }

@@ -12,15 +12,13 @@ mod entry;
 mod event;
 mod here;
 pub mod message;
-pub mod objects;
 mod refusal;
 mod same;
-pub mod sessions;
 mod tally;
 pub mod turns;
 
 pub use answer::{Answer, Job};
-pub use deed::{Cause, Deed, deeds};
+pub use deed::{Cause, Deed};
 pub use entry::{Entry, WorldStep};
 pub use event::{Event, Outcome};
 pub use here::Here;

@@ -15,10 +15,11 @@ ghost use Rattle.test_definitions.specs.Outputs.{IsAnswers};
 
 use nob_frame::Frame;
 use nob_ids::{Limits, SpaceId};
-use nob_model::{Answer, Entry, Event, Here, Refusal, WorldStep, right};
+use nob_model::{Answer, Entry, Event, Here, Refusal, WorldStep};
 use nob_model_journal::{Verdict, verdict_of};
 use nob_model_reading::{opening_of, step_of};
 use nob_model_text::{first_line, push_bad_step, push_line};
+use nob_plain_answers::right;
 use nob_script_text::{limits_of, result_text, verdict_line};
 use std::alloc::{AllocError, Global};
 use std::marker::Model;

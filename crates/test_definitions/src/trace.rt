@@ -14,7 +14,8 @@ ghost use Rattle.nob_trace.specs.Texts.{HaveOneText};
 
 use nob_frame::Version;
 use nob_ids::{Limits, SpaceId};
-use nob_model::{Entry, Here, right};
+use nob_model::{Entry, Here};
+use nob_plain_answers::right;
 use nob_trace::{
     Stamped, Trace, TraceError, decode, decode_all, encode, have_one_text, right_line, wrong_line,
 };

@@ -7,8 +7,9 @@ use crate::frames::{
 use crate::seen::Happenings;
 use nob_frame::{Bytes, Frame, FrameError, FrameKind, decode};
 use nob_ids::{CallNo, JobNo, Limits, SpaceId, WireRep};
-use nob_model::{Answer, Entry, Event, Here, Outcome, Refusal, right, same_result};
+use nob_model::{Answer, Entry, Event, Here, Outcome, Refusal, same_result};
 use nob_pickle::Value;
+use nob_plain_answers::right;
 use nob_rounds::Words;
 use nob_space::{Space, SpaceError};
 use std::alloc::{AllocError, Global};

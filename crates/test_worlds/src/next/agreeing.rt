@@ -2,10 +2,11 @@
 
 use crate::next::work::work_of;
 use nob_ids::{CallNo, SpaceId};
-use nob_model::next::reply_ready;
-use nob_model::{Answer, Entry, Event, Frames, Here, History, Refusal, right, same_result};
-use nob_model_history::listing::is_listed;
+use nob_model::{Answer, Entry, Event, Frames, Here, History, Refusal, same_result};
 use nob_model_journal::journals::{at, history_at};
+use nob_plain_answers::next::reply_ready;
+use nob_plain_answers::right;
+use nob_plain_history::listing::is_listed;
 use nob_space::{Space, SpaceError};
 use nob_world::World;
 use std::alloc::{AllocError, Global};

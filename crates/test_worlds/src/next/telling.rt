@@ -1,10 +1,10 @@
 //! The words for what a space could do next and for what it has outstanding.
 
 use nob_ids::WireRep;
-use nob_model::next::reply_ready;
 use nob_model::{Here, History, Outstanding, OwnCall};
-use nob_model_history::transit::{place, surrogates};
-use nob_model_work::work::outstanding_work;
+use nob_plain_answers::next::reply_ready;
+use nob_plain_history::transit::{place, surrogates};
+use nob_plain_words::work::outstanding_work;
 use nob_space::Work;
 use std::alloc::{AllocError, Global};
 

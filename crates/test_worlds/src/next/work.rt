@@ -4,8 +4,8 @@ ghost use Rattle.std.specs.Prelude.{◌≡◌, ◌≤◌, ◌-◌, ℕ, Some, sl
 ghost use Rattle.nob_model.specs.Next as words;
 
 use nob_ids::SpaceId;
-use nob_model::next::{can_act, can_claim, can_clean, can_send, can_settle, to_withdraw};
 use nob_model::{Here, History};
+use nob_plain_answers::next::{can_act, can_claim, can_clean, can_send, can_settle, to_withdraw};
 use nob_space::Work;
 use std::alloc::{AllocError, Global};
 

@@ -1,5 +1,0 @@
-use Rattle.std.proofs.Common.{length}
-use Rattle.nob_model.proofs.opening.+is_any_held.Given as goal
-
-abbrev pub decreases-is_any_held : goal.decreases-is_any_held
-decreases-is_any_held l = length l.reps.now

@@ -1,5 +1,0 @@
-use Rattle.std.proofs.Common.{length}
-use Rattle.nob_model.proofs.opening.+is_carried_in.Given as goal
-
-abbrev pub decreases-is_carried_in : goal.decreases-is_carried_in
-decreases-is_carried_in l = length l.messages.now

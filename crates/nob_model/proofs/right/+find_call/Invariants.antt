@@ -1,5 +1,0 @@
-use Rattle.std.proofs.Common.{length}
-use Rattle.nob_model.proofs.right.+find_call.Given as goal
-
-abbrev pub decreases-find_call : goal.decreases-find_call
-decreases-find_call l = length l.calls.now

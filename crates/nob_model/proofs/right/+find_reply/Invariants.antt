@@ -1,5 +1,0 @@
-use Rattle.std.proofs.Common.{length}
-use Rattle.nob_model.proofs.right.+find_reply.Given as goal
-
-abbrev pub decreases-find_reply : goal.decreases-find_reply
-decreases-find_reply l = length l.replies.now

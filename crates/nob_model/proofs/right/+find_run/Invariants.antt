@@ -1,5 +1,0 @@
-use Rattle.std.proofs.Common.{length}
-use Rattle.nob_model.proofs.right.+find_run.Given as goal
-
-abbrev pub decreases-find_run : goal.decreases-find_run
-decreases-find_run l = length l.runs.now

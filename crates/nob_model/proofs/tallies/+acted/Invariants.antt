@@ -1,5 +1,0 @@
-use Rattle.std.proofs.Common.{length}
-use Rattle.nob_model.proofs.tallies.+acted.Given as goal
-
-abbrev pub decreases-acted : goal.decreases-acted
-decreases-acted l = length l.deeds.now

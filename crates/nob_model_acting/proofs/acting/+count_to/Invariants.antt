@@ -1,5 +1,0 @@
-use Rattle.std.proofs.Common.{length}
-use Rattle.nob_model_acting.proofs.acting.+count_to.Given as goal
-
-abbrev pub decreases-count_to : goal.decreases-count_to
-decreases-count_to l = length l.gifts.now

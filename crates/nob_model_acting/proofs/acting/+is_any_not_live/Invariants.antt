@@ -1,5 +1,0 @@
-use Rattle.std.proofs.Common.{length}
-use Rattle.nob_model_acting.proofs.acting.+is_any_not_live.Given as goal
-
-abbrev pub decreases-is_any_not_live : goal.decreases-is_any_not_live
-decreases-is_any_not_live l = length l.reps.now

@@ -1,5 +1,0 @@
-use Rattle.std.proofs.Common.{length}
-use Rattle.nob_model_history.proofs.ends.+with_sends.Given as goal
-
-abbrev pub decreases-with_sends : goal.decreases-with_sends
-decreases-with_sends l = length l.gifts.now

@@ -1,5 +1,0 @@
-use Rattle.std.proofs.Common.{length}
-use Rattle.nob_model_history.proofs.holds.+gains.Given as goal
-
-abbrev pub decreases-gains : goal.decreases-gains
-decreases-gains l = length l.deeds.now

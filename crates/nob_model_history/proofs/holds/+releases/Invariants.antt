@@ -1,5 +1,0 @@
-use Rattle.std.proofs.Common.{length}
-use Rattle.nob_model_history.proofs.holds.+releases.Given as goal
-
-abbrev pub decreases-releases : goal.decreases-releases
-decreases-releases l = length l.deeds.now

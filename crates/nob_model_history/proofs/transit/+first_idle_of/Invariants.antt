@@ -1,5 +1,0 @@
-use Rattle.std.proofs.Common.{length}
-use Rattle.nob_model_history.proofs.transit.+first_idle_of.Given as goal
-
-abbrev pub decreases-first_idle_of : goal.decreases-first_idle_of
-decreases-first_idle_of l = length l.reps.now

@@ -1,5 +1,0 @@
-use Rattle.std.proofs.Common.{length}
-use Rattle.nob_model_history.proofs.transit.+is_settled.Given as goal
-
-abbrev pub decreases-is_settled : goal.decreases-is_settled
-decreases-is_settled l = length l.deeds.now

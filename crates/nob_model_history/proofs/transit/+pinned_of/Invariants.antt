@@ -1,5 +1,0 @@
-use Rattle.std.proofs.Common.{vec_len}
-use Rattle.nob_model_history.proofs.transit.+pinned_of.Given as goal
-
-abbrev pub decreases-pinned_of : goal.decreases-pinned_of
-decreases-pinned_of l = vec_len l.sent_items

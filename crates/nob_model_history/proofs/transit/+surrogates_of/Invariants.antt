@@ -1,5 +1,0 @@
-use Rattle.std.proofs.Common.{length}
-use Rattle.nob_model_history.proofs.transit.+surrogates_of.Given as goal
-
-abbrev pub decreases-surrogates_of : goal.decreases-surrogates_of
-decreases-surrogates_of l = length l.reps.now

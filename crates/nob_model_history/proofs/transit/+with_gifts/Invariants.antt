@@ -1,5 +1,0 @@
-use Rattle.std.proofs.Common.{length}
-use Rattle.nob_model_history.proofs.transit.+with_gifts.Given as goal
-
-abbrev pub decreases-with_gifts : goal.decreases-with_gifts
-decreases-with_gifts l = length l.gifts.now

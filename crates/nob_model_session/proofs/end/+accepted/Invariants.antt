@@ -1,5 +1,0 @@
-use Rattle.std.proofs.Common.{length}
-use Rattle.nob_model_session.proofs.end.+accepted.Given as goal
-
-abbrev pub decreases-accepted : goal.decreases-accepted
-decreases-accepted l = length l.calls.now

@@ -1,5 +1,0 @@
-use Rattle.std.proofs.Common.{length}
-use Rattle.nob_model_session.proofs.end.+ending.Given as goal
-
-abbrev pub decreases-ending : goal.decreases-ending
-decreases-ending l = length l.calls.now

@@ -1,5 +1,0 @@
-use Rattle.std.proofs.Common.{length}
-use Rattle.nob_model_session.proofs.end.+lowest.Given as goal
-
-abbrev pub decreases-lowest : goal.decreases-lowest
-decreases-lowest l = length l.calls.now

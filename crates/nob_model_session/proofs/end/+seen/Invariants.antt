@@ -1,5 +1,0 @@
-use Rattle.std.proofs.Common.{length}
-use Rattle.nob_model_session.proofs.end.+seen.Given as goal
-
-abbrev pub decreases-seen : goal.decreases-seen
-decreases-seen l = length l.calls.now

@@ -1,5 +1,0 @@
-use Rattle.std.proofs.Common.{length}
-use Rattle.nob_model_session.proofs.end.+takes.Given as goal
-
-abbrev pub decreases-takes : goal.decreases-takes
-decreases-takes l = length l.calls.now

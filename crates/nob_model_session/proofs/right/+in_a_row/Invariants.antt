@@ -1,4 +1,0 @@
-use Rattle.nob_model_session.proofs.right.+in_a_row.Given as goal
-
-abbrev pub decreases-in_a_row : goal.decreases-in_a_row
-decreases-in_a_row l = l.count

@@ -1,5 +1,0 @@
-use Rattle.std.proofs.Common.{length}
-use Rattle.nob_model_types.proofs.deed.+deeds.Given as goal
-
-abbrev pub decreases-deeds : goal.decreases-deeds
-decreases-deeds l = length l.entries.now

@@ -1,5 +1,0 @@
-use Rattle.std.proofs.Common.{length}
-use Rattle.nob_model_types.proofs.message.+is_any_lost.Given as goal
-
-abbrev pub decreases-is_any_lost : goal.decreases-is_any_lost
-decreases-is_any_lost l = length l.copies.now

@@ -1,5 +1,0 @@
-use Rattle.std.proofs.Common.{length}
-use Rattle.nob_model_types.proofs.message.+new_copies.Given as goal
-
-abbrev pub decreases-new_copies : goal.decreases-new_copies
-decreases-new_copies l = length l.reps.now

@@ -1,5 +1,0 @@
-use Rattle.std.proofs.Common.{length}
-use Rattle.nob_model_types.proofs.objects.+exports.Given as goal
-
-abbrev pub decreases-exports : goal.decreases-exports
-decreases-exports l = length l.deeds.now

@@ -1,5 +1,0 @@
-use Rattle.std.proofs.Common.{length}
-use Rattle.nob_model_types.proofs.sessions.+closed.Given as goal
-
-abbrev pub decreases-closed : goal.decreases-closed
-decreases-closed l = length l.deeds.now

@@ -1,5 +1,0 @@
-use Rattle.std.proofs.Common.{length}
-use Rattle.nob_model_types.proofs.sessions.+payload_at.Given as goal
-
-abbrev pub decreases-payload_at : goal.decreases-payload_at
-decreases-payload_at l = length l.deeds.now

@@ -1,5 +1,0 @@
-use Rattle.std.proofs.Common.{length}
-use Rattle.nob_model_types.proofs.sessions.+session_with.Given as goal
-
-abbrev pub decreases-session_with : goal.decreases-session_with
-decreases-session_with l = length l.deeds.now

@@ -1,5 +1,0 @@
-use Rattle.std.proofs.Common.{length}
-use Rattle.nob_model_types.proofs.turns.+turns_of.Given as goal
-
-abbrev pub decreases-turns_of : goal.decreases-turns_of
-decreases-turns_of l = length l.deeds.now

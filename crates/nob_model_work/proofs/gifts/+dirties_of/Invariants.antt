@@ -1,5 +1,0 @@
-use Rattle.std.proofs.Common.{length}
-use Rattle.nob_model_work.proofs.gifts.+dirties_of.Given as goal
-
-abbrev pub decreases-dirties_of : goal.decreases-dirties_of
-decreases-dirties_of l = length l.reps.now

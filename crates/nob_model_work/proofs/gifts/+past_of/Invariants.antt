@@ -1,5 +1,0 @@
-use Rattle.std.proofs.Common.{length}
-use Rattle.nob_model_work.proofs.gifts.+past_of.Given as goal
-
-abbrev pub decreases-past_of : goal.decreases-past_of
-decreases-past_of l = length l.deeds.now

@@ -1,7 +1,0 @@
-use Rattle.std.proofs.Common.{◌≡◌, ◌++◌, map, drop}
-use Rattle.nob_model_work.specs.Work.{call_after_reply}
-use Rattle.nob_model_work.proofs.work.calls_after_reply.Given as goal
-
--- the calls so far after the Reply, and the others
-abbrev pub invariant-loop-own : goal.invariant-loop-own
-invariant-loop-own l = l.after.items ++ map (call_after_reply l.peer l.call) (drop l.own-index l.calls) ≡ map (call_after_reply l.peer l.call) l.calls
