@@ -16,9 +16,12 @@ use crate::joining::all_joined;
 use crate::running::run_again;
 use nob_chain::Chain;
 use nob_check::{Merged, first_fault};
-use nob_model_chains::{SetError, SetFault, WrongChain, are_one_each, fault_of, lower_of};
-use nob_model_traces::{CheckFault, merge};
+use nob_model_chains::{SetError, SetFault, WrongChain};
+use nob_model_traces::CheckFault;
 use nob_model_types::Entry;
+use nob_plain_chains::lowest::{fault_of, lower_of};
+use nob_plain_chains::set::are_one_each;
+use nob_plain_traces::merging::merge;
 use nob_trace::Trace;
 use std::alloc::{AllocError, Global};
 

@@ -11,8 +11,8 @@ ghost use Rattle.nob_chain_check.specs.Running.{ArePeers, HasPeers, with_wrong};
 
 use nob_chain::{PeerSeal, Seal};
 use nob_check::Space;
-use nob_model_chains::same_ending;
 use nob_model_types::Tally;
+use nob_plain_chains::sealing::same_ending;
 
 // Whether it is said of a peer what a tally says.
 fn is_as(peer: &PeerSeal, tally: &Tally) -> bool

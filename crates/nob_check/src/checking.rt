@@ -15,8 +15,11 @@ ghost use Rattle.nob_check.specs.Accepting.{Answers};
 use crate::merged::Merged;
 use crate::origins::first_fault;
 use crate::running::run_again;
-use nob_model_traces::{CheckError, CheckFault, WrongEntry, are_one_each, lower_of, merge};
+use nob_model_traces::{CheckError, CheckFault, WrongEntry};
 use nob_model_types::Entry;
+use nob_plain_traces::lowest::lower_of;
+use nob_plain_traces::merging::merge;
+use nob_plain_traces::set::are_one_each;
 use nob_trace::Trace;
 use std::alloc::{AllocError, Global};
 

@@ -12,7 +12,7 @@ use nob_check_ledgers::{ActedItem, Ledger};
 use nob_ids::{ItemNo, SpaceId};
 use nob_item::Item;
 use nob_model_history::SentItem;
-use nob_model_journal::same_item;
+use nob_plain_answers::same::same_item;
 use std::alloc::{AllocError, Global};
 
 // What is left of these items behind the first, where that is the one that was acted on and has its

@@ -13,8 +13,8 @@ ghost use Rattle.nob_model_traces.specs.Origins as words;
 use crate::set::FrameSet;
 use nob_frame::Frame;
 use nob_model_traces::CheckFault;
-use nob_model_traces::origins::{frame_in, frames_of, origin_fault};
 use nob_model_types::Entry;
+use nob_plain_traces::origins::{frame_in, frames_of, origin_fault};
 use std::alloc::{AllocError, Global};
 
 // The frame that arrives by an entry, where it isn't one of these.

@@ -11,9 +11,9 @@ use crate::judging::judged;
 use crate::set::spaces_of;
 use nob_chain::{Chain, ChainError, decode_all, refusal_line};
 pub use nob_drawing_choice::Choice;
-use nob_model_chains::are_one_each;
 use nob_model_traces::WrongEntry;
 use nob_model_types::Entry;
+use nob_plain_chains::set::are_one_each;
 use std::alloc::{AllocError, Global};
 
 /// How drawing ends.

@@ -10,8 +10,8 @@ ghost use Rattle.nob_demo.specs.Draws as spec;
 
 use nob_chain::Chain;
 use nob_chain_check::all_joined;
-use nob_model_traces::merge;
 use nob_model_types::Entry;
+use nob_plain_traces::merging::merge;
 use nob_trace::Trace;
 use std::alloc::{AllocError, Global};
 

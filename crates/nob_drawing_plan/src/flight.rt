@@ -8,8 +8,8 @@ ghost use Rattle.nob_drawing_plan.specs.Flights as spec;
 
 use nob_frame::Frame;
 use nob_ids::SpaceId;
-use nob_model_traces::origins::frames_of;
 use nob_model_types::{Answer, Entry, Event, Refusal};
+use nob_plain_traces::origins::frames_of;
 use std::alloc::{AllocError, Global};
 
 /// A frame that a Transmit gave.

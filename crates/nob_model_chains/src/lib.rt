@@ -3,15 +3,6 @@
 //! compute them plainly. What runs a chain again, and looks at its seals, is slow on purpose.
 #![tactic(auto)]
 
-mod checking;
 mod fault;
-mod joining;
-mod lowest;
-mod sealing;
-mod set;
 
-pub use checking::check_plainly;
 pub use fault::{SetError, SetFault, WrongChain, WrongPart};
-pub use lowest::{fault_of, lower_of};
-pub use sealing::same_ending;
-pub use set::are_one_each;

@@ -5,16 +5,8 @@
 //! for every list, run or not; `verdict_of` says which promise is the first that isn't kept.
 #![tactic(auto)]
 
-mod findings;
-mod fronts;
-pub mod journals;
 mod losses;
-pub mod promises;
-pub mod safety;
-mod same;
 mod verdict;
 
 pub use losses::Source;
-pub use promises::verdict_of;
-pub use same::same_item;
 pub use verdict::{Promise, Verdict};

@@ -43,7 +43,7 @@ impl Turns {
     }
 
     // One Dirty more.
-    fn with_dirty(self) -> Turns
+    pub fn with_dirty(self) -> Turns
         requires { self.dirties < 2 ^ 63 }
         ensures { result ≡ words.with_dirty self }
     {
@@ -56,7 +56,7 @@ impl Turns {
     }
 
     // One answer more.
-    fn with_answer(self, answer: OwnerAnswer) -> Turns
+    pub fn with_answer(self, answer: OwnerAnswer) -> Turns
         requires { self.answers < 2 ^ 63 }
         ensures { result ≡ words.with_answer answer self }
     {
@@ -69,7 +69,7 @@ impl Turns {
     }
 
     // The reference given up, where the last of Dirty and Clean is a Dirty.
-    fn with_clean(self) -> Turns
+    pub fn with_clean(self) -> Turns
         ensures { result ≡ words.with_clean self }
     {
         Turns {

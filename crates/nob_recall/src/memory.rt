@@ -9,7 +9,7 @@ ghost use Rattle.nob_recall.specs.Remembering as words;
 use crate::heard::{is_past, make_heard};
 use nob_frame::Frame;
 use nob_model::{Entry, Frames, same_frame};
-use nob_model_traces::origins::frames_of;
+use nob_plain_traces::origins::frames_of;
 use std::alloc::{AllocError, Global};
 
 /// The frames that are remembered.

@@ -10,9 +10,9 @@ use crate::memory::{is_in, make_memory};
 use nob_frame::Frame;
 use nob_ids::{Limits, SpaceId};
 use nob_model::{Entry, Here, same_result};
-use nob_model_journal::journals::at;
-use nob_model_traces::origins::frame_in;
+use nob_plain_answers::journals::at;
 use nob_plain_answers::right;
+use nob_plain_traces::origins::frame_in;
 use std::alloc::{AllocError, Global};
 
 // Whether an entry is right after the entries of its space before it, the newest first.

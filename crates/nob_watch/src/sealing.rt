@@ -11,8 +11,8 @@ ghost use Rattle.nob_model_chains.specs.Sealing as seals;
 ghost use Rattle.nob_watch.specs.Sealing as words;
 
 use nob_chain::{PeerSeal, Seal};
-use nob_model_chains::same_ending;
 use nob_model_types::Tally;
+use nob_plain_chains::sealing::same_ending;
 use nob_space::Space;
 
 // Whether peers are all spaces from this one to n but the own one, rising. It recurses once for

@@ -1,9 +1,10 @@
 //! Chains and traces of several spaces, one after the other, checked by the definitions.
 
 use nob_chain::{Chain, ChainError, decode_all, refusal_line};
-use nob_model_chains::{SetError, SetFault, check_plainly};
-use nob_model_journal::verdict_of;
+use nob_model_chains::{SetError, SetFault};
 use nob_model_traces::CheckFault;
+use nob_plain_answers::promises::verdict_of;
+use nob_plain_chains::checking::check_plainly;
 use nob_script_text::verdict_line;
 use nob_trace::TraceError;
 use std::alloc::{AllocError, Global};

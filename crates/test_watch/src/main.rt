@@ -9,7 +9,7 @@ mod watching;
 use crate::plainly::stopped_plainly;
 use crate::watching::stopped;
 use nob_chain::{Chain, ChainError, decode_all, refusal_line};
-use nob_model_chains::are_one_each;
+use nob_plain_chains::set::are_one_each;
 use nob_recall::{WatchError, WatchFault};
 use std::alloc::Global;
 use std::io::{Read, Write};

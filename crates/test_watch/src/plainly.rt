@@ -3,12 +3,12 @@
 use nob_chain::{Chain, PeerSeal, Seal};
 use nob_ids::SpaceId;
 use nob_model::{Here, History};
-use nob_model_chains::same_ending;
-use nob_model_journal::journals::at;
-use nob_model_traces::copy_entry;
 use nob_model_types::Entry;
+use nob_plain_answers::journals::at;
 use nob_plain_answers::tallies::{live_count, tally};
+use nob_plain_chains::sealing::same_ending;
 use nob_plain_history::history::make_history;
+use nob_plain_traces::merging::copy_entry;
 use nob_recall::{WatchError, WatchFault, next_fault};
 use nob_trace::Stamped;
 use std::alloc::{AllocError, Global};

@@ -3,7 +3,7 @@
 use crate::next::work::work_of;
 use nob_ids::{CallNo, SpaceId};
 use nob_model::{Answer, Entry, Event, Frames, Here, History, Refusal, same_result};
-use nob_model_journal::journals::{at, history_at};
+use nob_plain_answers::journals::{at, history_at};
 use nob_plain_answers::next::reply_ready;
 use nob_plain_answers::right;
 use nob_plain_history::listing::is_listed;

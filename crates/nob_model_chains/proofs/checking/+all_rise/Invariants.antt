@@ -1,5 +1,0 @@
-use Rattle.std.proofs.Common.{length}
-use Rattle.nob_model_chains.proofs.checking.+all_rise.Given as goal
-
-abbrev pub decreases-all_rise : goal.decreases-all_rise
-decreases-all_rise l = length l.traces.now

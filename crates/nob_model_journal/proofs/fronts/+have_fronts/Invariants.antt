@@ -1,5 +1,0 @@
-use Rattle.std.proofs.Common.{length}
-use Rattle.nob_model_journal.proofs.fronts.+have_fronts.Given as goal
-
-abbrev pub decreases-have_fronts : goal.decreases-have_fronts
-decreases-have_fronts l = length l.spaces.now

@@ -1,5 +1,0 @@
-use Rattle.std.proofs.Common.{length}
-use Rattle.nob_model_journal.proofs.fronts.+sends_while_open.Given as goal
-
-abbrev pub decreases-sends_while_open : goal.decreases-sends_while_open
-decreases-sends_while_open l = length l.deeds.now

@@ -1,5 +1,0 @@
-use Rattle.std.proofs.Common.{length}
-use Rattle.nob_model_journal.proofs.journals.+at.Given as goal
-
-abbrev pub decreases-at : goal.decreases-at
-decreases-at l = length l.journal.now

@@ -1,5 +1,0 @@
-use Rattle.std.proofs.Common.{length}
-use Rattle.nob_model_journal.proofs.journals.+deeds_at.Given as goal
-
-abbrev pub decreases-deeds_at : goal.decreases-deeds_at
-decreases-deeds_at l = length l.journal.now

@@ -1,5 +1,0 @@
-use Rattle.std.proofs.Common.{length}
-use Rattle.nob_model_journal.proofs.journals.+items_to.Given as goal
-
-abbrev pub decreases-items_to : goal.decreases-items_to
-decreases-items_to l = length l.sent_items.now

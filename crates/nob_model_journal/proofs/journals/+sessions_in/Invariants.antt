@@ -1,5 +1,0 @@
-use Rattle.std.proofs.Common.{length}
-use Rattle.nob_model_journal.proofs.journals.+sessions_in.Given as goal
-
-abbrev pub decreases-sessions_in : goal.decreases-sessions_in
-decreases-sessions_in l = length l.deeds.now

@@ -1,5 +1,0 @@
-use Rattle.std.proofs.Common.{length}
-use Rattle.nob_model_journal.proofs.losses.+are_excused.Given as goal
-
-abbrev pub decreases-are_excused : goal.decreases-are_excused
-decreases-are_excused l = length l.reps.now

@@ -1,5 +1,0 @@
-use Rattle.std.proofs.Common.{length}
-use Rattle.nob_model_journal.proofs.losses.+are_excuses.Given as goal
-
-abbrev pub decreases-are_excuses : goal.decreases-are_excuses
-decreases-are_excuses l = length l.all.now

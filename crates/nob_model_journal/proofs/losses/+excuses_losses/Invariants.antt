@@ -1,5 +1,0 @@
-use Rattle.std.proofs.Common.{length}
-use Rattle.nob_model_journal.proofs.losses.+excuses_losses.Given as goal
-
-abbrev pub decreases-excuses_losses : goal.decreases-excuses_losses
-decreases-excuses_losses l = length l.journal.now

@@ -1,5 +1,0 @@
-use Rattle.std.proofs.Common.{length}
-use Rattle.nob_model_journal.proofs.losses.+sources.Given as goal
-
-abbrev pub decreases-sources : goal.decreases-sources
-decreases-sources l = length l.deeds.now

@@ -1,5 +1,0 @@
-use Rattle.std.proofs.Common.{length}
-use Rattle.nob_model_journal.proofs.safety.+withdraws_safely.Given as goal
-
-abbrev pub decreases-withdraws_safely : goal.decreases-withdraws_safely
-decreases-withdraws_safely l = length l.journal.now
