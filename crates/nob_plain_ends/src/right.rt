@@ -11,7 +11,7 @@ ghost use Rattle.nob_model_session.specs.Right as right;
 use crate::end;
 use nob_frame::{Bytes, Frame, FrameKind};
 use nob_ids::{ItemNo, Reason, SpaceId};
-use nob_model_session::end::LAST_ITEM;
+use nob_model_session::end::{LAST_ITEM, REACH};
 use nob_model_session::right::{INBOX_LIMIT, QUEUE_LIMIT};
 use nob_model_session::{Arrived, EndEntry, EndRefusal, Ending, Kind};
 use std::alloc::{AllocError, Global};
@@ -91,7 +91,7 @@ fn taken_by(alloc: Global, frame: &Frame, calls: &[EndEntry]) -> Result<u64, All
     let waiting = end::waiting(alloc, calls)?;
     let room = INBOX_LIMIT.saturating_sub(waiting.len());
     let first = end::accepted_count(calls) + 1;
-    Ok(in_a_row(first, end::REACH, room as u64, frame, calls))
+    Ok(in_a_row(first, REACH, room as u64, frame, calls))
 }
 
 // How many of `count` numbers from the first one on came in a row, with this frame of the present
