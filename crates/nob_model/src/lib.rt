@@ -1,7 +1,7 @@
 //! What the parts of the runtime mean: the one right answer of a space to each event, after each
-//! list of entries. In `specs/` are the definitions that contracts cite; the functions here compute
-//! them plainly and slowly from the whole list, for every list, and compare what has no `==`. The
-//! types and words that stand in the crates below are passed on.
+//! list of entries. In `specs/` are the definitions that contracts cite, for every list; the
+//! functions that compute them from a list stand in nob_plain_answers. Those here compare what has
+//! no `==`. The types and words that stand in the crates below are passed on.
 #![tactic(auto)]
 
 mod answers;

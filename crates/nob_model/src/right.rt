@@ -1,4 +1,4 @@
-//! The one right answer to each event, computed plainly from the whole history of the space.
+//! The limits that the right answers of a space name.
 
 ghost use Rattle.std.specs.Prelude.{◌≡◌, ◌≤◌, ◌+◌, ◌==◌, ◌&&◌, nat_lt, IfOk, Some, None, find, length};
 ghost use Rattle.std.specs.List.{list_any, list_all};

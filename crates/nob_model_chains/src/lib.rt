@@ -1,6 +1,6 @@
 //! The chains of several spaces, each as the trace that it is, and its seals: which of them belong
-//! together, and what is wrong with them. In `specs/` are the definitions; the functions here
-//! compute them plainly. What runs a chain again, and looks at its seals, is slow on purpose.
+//! together, and what is wrong with them. In `specs/` are the definitions; the functions that
+//! compute them stand in nob_plain_chains. Here are the faults.
 #![tactic(auto)]
 
 mod fault;

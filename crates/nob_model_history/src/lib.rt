@@ -1,7 +1,7 @@
-//! The history of a space, the newest first: what it did, has outstanding and gave. From it are read
-//! the calls on each end, holds, what is in transit, and who is listed. In `specs/` are the
-//! definitions; the functions here compute them plainly and slowly from the whole list, for every
-//! list.
+//! The history of a space, the newest first: what it did, has outstanding and gave. From it are
+//! read the calls on each end, holds, what is in transit, and who is listed. Here are the data and
+//! a law, and in `specs/` the definitions, for every list; the functions that compute them from a
+//! list stand in nob_plain_history.
 #![tactic(auto)]
 
 mod history;

@@ -1,5 +1,5 @@
-//! The words of one end, computed plainly from the whole list of its calls, the newest first. A
-//! `reopen` that was answered begins each of them anew, but for `number` and `seen`.
+//! The limits that the words of one end name: the greatest numbers of an item and of a session, and
+//! how many numbers are in reach.
 
 ghost use Rattle.std.specs.Prelude.{◌≡◌, ◌≤◌, ◌<◌, ◌+◌, ◌-◌, ◌*◌, ◌^◌, IfOk, length, drop};
 ghost use Rattle.std.specs.Option.{option_map};

@@ -1,7 +1,7 @@
-//! What the parts of the runtime mean: entries as plain data, and in `specs/` the words, the right
-//! answers and the laws that contracts cite. The functions here compute the right answers plainly
-//! and slowly from a whole list of calls; each has its definition as its contract, and faster
-//! bodies are compared with them in tests.
+//! What the sessions between two spaces mean: the calls on one end with their answers, as plain
+//! data, and in `specs/` the words, the right answers and the laws that contracts cite. The code of
+//! an end is proved against these definitions; the functions that compute them from a whole list of
+//! calls stand in nob_plain_ends.
 #![tactic(auto)]
 
 pub mod end;

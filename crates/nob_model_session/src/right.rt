@@ -1,5 +1,5 @@
-//! The one right answer to each call on an end, computed plainly from the whole list of the calls
-//! before it, the newest first.
+//! The limits that the right answers of an end name: of unacknowledged items, and of accepted ones
+//! that wait.
 
 ghost use Rattle.std.specs.Prelude.{◌≡◌, ◌≤◌, ◌<◌, ◌+◌, ◌^◌, Bool, true, IfOk, Ok, length, take, [], ◌∷◌};
 ghost use Rattle.nob_model_session.specs.declared.entry.Arrived.TheVariants as arrived;

@@ -1,6 +1,6 @@
 //! The traces of several spaces as one journal: which of them belong together, what is wrong with
-//! them, and their entries in order of stamp. In `specs/` are the definitions; the functions here
-//! compute them plainly. What runs a trace again, and looks for origins, is slow on purpose.
+//! them, and their entries in order of stamp. In `specs/` are the definitions; the functions that
+//! compute them stand in nob_plain_traces. Here are the faults, when an entry was made, and a law.
 #![tactic(auto)]
 
 mod fault;

@@ -1,9 +1,9 @@
 //! What happens at a space, as plain data: an event, its answer or its refusal, the entry that both
-//! make, and a step of a world of spaces; and the words that are read off the list of what one space
-//! did, the newest first: which sessions have closed, which items came, which objects are live, what
-//! was asked of the owner of a reference, and messages. In `specs/` are the definitions; the functions
-//! here compute them plainly and slowly from the whole list, for every list. Nothing here says which
-//! answer is right.
+//! make, and a step of a world of spaces; and the words that are read off the list of what one
+//! space did, the newest first: which sessions have closed, which items came, which objects are
+//! live, what was asked of the owner of a reference, and messages. In `specs/` are the definitions,
+//! for every list; the functions that compute them from a list stand in nob_plain_words. Those here
+//! look at what they are given, and at no list of deeds. Nothing here says which answer is right.
 #![tactic(auto)]
 
 mod answer;

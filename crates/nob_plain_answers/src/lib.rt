@@ -1,5 +1,7 @@
-//! The one right answer of a space to each event, what it could do next, and what is promised of a journal,
-//! computed plainly and slowly from the whole list of entries.
+//! The definitions of one space and of the journal of all spaces as a program, which computes them
+//! plainly and slowly from the whole list of entries: of a space the one right answer to each
+//! event, what it could do next, and what who runs a node sees of it (nob_model); of the journal
+//! its words, each promise as a test, and the first promise that isn't kept (nob_model_journal).
 #![tactic(auto)]
 
 pub mod findings;
