@@ -1,6 +1,6 @@
 //! The objects.
 
-use nob_dispatch_objects::{Done, Object, Outcome};
+use nob_dispatch_objects::{Agent, Done, Object, Outcome};
 use nob_pickle::Value;
 
 /// An object.
@@ -60,5 +60,34 @@ impl Object for Doubler {
 
     fn resume(&mut self, _done: &Done) -> Outcome {
         Outcome::NoMethod
+    }
+}
+
+/// The objects of a node with three kinds of them, as one type.
+#[derive(Drop)]
+pub(crate) enum Mixed {
+    /// A counter, or who calls.
+    Thing(Thing),
+    /// What doubles a number.
+    Doubler(Doubler),
+    /// A table of names.
+    Names(Agent),
+}
+
+impl Object for Mixed {
+    fn invoke(&mut self, method: u16, args: &Value) -> Outcome {
+        match self {
+            Mixed::Thing(thing) => thing.invoke(method, args),
+            Mixed::Doubler(doubler) => doubler.invoke(method, args),
+            Mixed::Names(names) => names.invoke(method, args),
+        }
+    }
+
+    fn resume(&mut self, done: &Done) -> Outcome {
+        match self {
+            Mixed::Thing(thing) => thing.resume(done),
+            Mixed::Doubler(doubler) => doubler.resume(done),
+            Mixed::Names(names) => names.resume(done),
+        }
     }
 }

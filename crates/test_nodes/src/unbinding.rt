@@ -1,11 +1,11 @@
-//! Two nodes with boxed objects, of which one has a name that is removed while the other node holds
-//! it.
+//! Two nodes with objects of three kinds, of which one has a name that is removed while the other node
+//! holds it.
 
 use crate::calling::{Refusals, Said, found, give_back, offer, said_by};
-use crate::thing::{Doubler, Thing};
+use crate::thing::{Doubler, Mixed, Thing};
 use crate::verdict::{Outcome, outcome_of_two};
 use nob_bytes::Bytes;
-use nob_dispatch_objects::{Agent, Held, Object};
+use nob_dispatch_objects::{Agent, Object};
 use nob_nodes::{
     Company, Hold, Keep, Node, Played, Player, Report, partner_of, retire, run_two_keeping,
 };
@@ -203,9 +203,9 @@ pub(crate) struct Unbound {
 pub(crate) fn play_unbinding<R: Threads + Wait + Sync>(rt: &R, alloc: Global) -> Option<Unbound> {
     let owner = Owner {
         objects: Some(Objects {
-            counter: Held::Boxed(Box::new(alloc, Thing::Counter(0)).ok()?),
-            doubler: Held::Boxed(Box::new(alloc, Doubler).ok()?),
-            names: Held::Agent(Agent::new(alloc)),
+            counter: Mixed::Thing(Thing::Counter(0)),
+            doubler: Mixed::Doubler(Doubler),
+            names: Mixed::Names(Agent::new(alloc)),
         }),
         seen: Seen {
             while_held: 0,
